@@ -1,15 +1,17 @@
 //! The bank in a file.
 
-ghost use Rattle.std.specs.Prelude.{◌≡◌, IfOk};
-ghost use Rattle.store_server.specs.Standings.{standing_of};
+ghost use Rattle.std.specs.Prelude.{◌≡◌, [], false, IfOk};
+ghost use Rattle.engine_store.specs.Halves.{AreCommitsSince, KeepsCommits};
 
 use crate::client::TRANSFERS;
 use chain_pool::PooledChains;
-use engine_store::EngineStore;
-use file_disk::FileDisk;
+use crash_disk::Renew;
+use engine_core::Engine;
+use epoch_journal::EpochJournal;
 use serial_order::tables;
 use std::alloc::Global;
 use store_server::StoreServer;
+use teb_names::Txn;
 
 /// The accounts, and a row for each session that counts its transfers.
 const TREE: &[u8] = br#"
@@ -24,11 +26,17 @@ types = ["transfer"]
 "#;
 
 /// Opens the bank that a disk has, or a new one on an empty disk.
-pub fn open_bank(alloc: Global, disk: FileDisk) -> anyhow::Result<StoreServer<FileDisk>>
-    ensures { IfOk result (λ s. (standing_of s.store).unkept ≡ 0) }
+pub fn open_bank<D: Renew + Drop>(
+    alloc: Global,
+    disk: D,
+) -> anyhow::Result<(StoreServer<D>, EpochJournal<D>)>
+    ensures events { IfOk result (λ o. o.0.queue.engine.events ≡ []) }
+    ensures waits { IfOk result (λ o. AreCommitsSince o.0.queue.engine.store [] o.0.queue.engine.events o.0.queue.waiting) }
+    ensures kept { IfOk result (λ o. KeepsCommits D.seen D.may_leave o.0.queue.engine.store [] 0 o.1) }
+    ensures running { IfOk result (λ o. o.1.stopped ≡ false) }
 {
     match StoreServer::open(alloc, disk, TREE.to_vec(alloc)?) {
-        Ok(server) => Ok(server),
+        Ok(halves) => Ok(halves),
         Err(refused) => Err(refused.why.into()),
     }
 }
@@ -38,15 +46,13 @@ pub fn open_bank(alloc: Global, disk: FileDisk) -> anyhow::Result<StoreServer<Fi
 pub fn report(
     rt: &impl Print,
     alloc: Global,
-    store: &EngineStore<PooledChains, FileDisk>,
+    engine: &Engine<PooledChains>,
     is_loud: bool,
 ) -> anyhow::Result<()> {
-    let (mut made, mut total) = (0_i64, 0_i64);
-    for (cell, value) in &tables(alloc, store.engine())? {
+    let mut total = 0_i64;
+    for (cell, value) in &tables(alloc, engine)? {
         let is_count = cell.table == TRANSFERS;
-        if is_count {
-            made = made.saturating_add(*value);
-        } else {
+        if !is_count {
             total = total.saturating_add(*value);
         }
         if is_loud {
@@ -54,6 +60,30 @@ pub fn report(
             println!(rt; "{what} {} has {value}", cell.key)?;
         }
     }
+    let made = transfers(alloc, engine)?;
     println!(rt; "{made} transfers, and {total} in all accounts")?;
     Ok(())
+}
+
+/// The number of transfers that were ever made.
+pub fn transfers(alloc: Global, engine: &Engine<PooledChains>) -> anyhow::Result<i64> {
+    let mut made = 0_i64;
+    for (cell, value) in &tables(alloc, engine)? {
+        if cell.table == TRANSFERS {
+            made = made.saturating_add(*value);
+        }
+    }
+    Ok(made)
+}
+
+/// The number of transfers that were made in the present epoch: each is a transaction.
+pub fn transfers_of_epoch(engine: &Engine<PooledChains>) -> i64 {
+    let history = engine.history();
+    let mut made = 0_i64;
+    for i in 0..history.begun() {
+        if history.is_committed(Txn(i + 1)) {
+            made = made.saturating_add(1);
+        }
+    }
+    made
 }

@@ -8,13 +8,13 @@
 mod bank;
 mod client;
 
-ghost use Rattle.std.specs.Prelude.{ℕ, ◌≡◌, ◌<◌, All, length, slice_index_or};
+ghost use Rattle.std.specs.Prelude.{ℕ, ◌≡◌, ◌<◌, [], false, All, length, slice_index_or};
 ghost use Rattle.shared_store.specs.Sharing.{IsSessionOf};
 
-use bank::{open_bank, report};
+use bank::{open_bank, report, transfers, transfers_of_epoch};
 use client::{Work, run_client};
 use file_disk::FileDisk;
-use shared_store::{EpochServer, Life, LifeEntry, Store, StoreSession};
+use shared_store::{EpochServer, Store, StoreSession};
 use std::alloc::Global;
 use std::env;
 use std::sync::Wait;
@@ -22,7 +22,7 @@ use std::thread::{self, Threads};
 use std::time::Clock;
 use teb_names::SESSIONS;
 
-/// A file has fewer bytes than so many.
+/// A file has fewer bytes than this.
 const MOST_BYTES: u64 = 1 << 40;
 
 fn main(rt: HostRuntime) -> anyhow::Result<()> {
@@ -47,32 +47,44 @@ fn main(rt: HostRuntime) -> anyhow::Result<()> {
         return Ok(());
     }
     let disk = FileDisk::open_with_capacity(&rt, alloc, &path, bytes)?;
-    let server = open_bank(alloc, disk)?;
-    report(&rt, alloc, server.store(), work.is_loud)?;
-    let Some((server, life)) = share(&rt, alloc, server, clients.parse()?, work) else {
+    let (server, log) = open_bank(alloc, disk)?;
+    let before = transfers(alloc, server.engine())?;
+    report(&rt, alloc, server.engine(), work.is_loud)?;
+    let shared = share(&rt, alloc, server, log, clients.parse()?, work);
+    let Some((server, _log)) = shared else {
         println!(rt; "out of memory")?;
         return Ok(());
     };
-    println!(rt; "several epochs: {}", epochs_ended(&life) > 0)?;
-    report(&rt, alloc, server.store(), work.is_loud)
+    let made = transfers(alloc, server.engine())?.saturating_sub(before);
+    println!(rt;
+        "several epochs: {}",
+        transfers_of_epoch(server.engine()) < made
+    )?;
+    report(&rt, alloc, server.engine(), work.is_loud)
 }
 
-/// Shares a server among that many clients until they are done. It returns the server and what happened; none if memory is out.
+/// Shares a server and its log among that many clients until they are done, and returns both; none if memory is out.
 fn share<S: EpochServer + Send + Drop, R: Threads + Wait + Clock + Print + Sync>(
     rt: &R,
     alloc: Global,
     server: S,
+    log: S::Log,
     clients: usize,
     work: Work,
-) -> Option<(S, Life)>
-    requires { (S.standing server).unkept ≡ 0 }
+) -> Option<(S, S::Log)>
+where
+    S::Log: Send + Drop,
+    requires fresh { (S.standing server).events ≡ [] }
+    requires waits { ∥ S.waits server [] ∥₁ }
+    requires kept { ∥ S.keeps log (S.standing server).store [] 0 ∥₁ }
+    requires running { S.failed log ≡ false }
 {
-    let Ok((store, mut sessions)) = Store::new(alloc, server) else {
+    let Ok((store, mut sessions)) = Store::new(alloc, server, log) else {
         return None;
     };
     run_clients(rt, alloc, &store, &mut sessions, clients, work);
-    let (server, life) = store.close(sessions);
-    Some((server, life))
+    let (server, log, _life) = store.close(alloc, sessions);
+    Some((server, log))
 }
 
 /// Runs that many clients, each with a session and in a thread of its own. The other sessions ask nothing.
@@ -84,8 +96,11 @@ fn run_clients<S: EpochServer + Send, R: Threads + Wait + Clock + Print + Sync>(
     clients: usize,
     work: Work,
 )
+where
+    S::Log: Send,
     requires { All (IsSessionOf store.now) sessions.old }
-    ensures { (i : ℕ) (d : _) → i < length sessions.old → IsSessionOf store.now (slice_index_or sessions.new i d) × ((slice_index_or sessions.new i d).session ≡ (slice_index_or sessions.old i d).session) }
+    ensures { (i : ℕ) (d : _) → i < length sessions.old → IsSessionOf store.now (slice_index_or sessions.new i d)
+        × ((slice_index_or sessions.new i d).session ≡ (slice_index_or sessions.old i d).session) }
 {
     let threads = usize::from(SESSIONS);
     thread::for_each_mut(
@@ -98,11 +113,4 @@ fn run_clients<S: EpochServer + Send, R: Threads + Wait + Clock + Print + Sync>(
             }
         },
     );
-}
-
-/// The number of epochs that have ended.
-fn epochs_ended(life: &Life) -> usize {
-    (0..life.len())
-        .filter(|i| matches!(life.at(*i), LifeEntry::Turned(_)))
-        .count()
 }

@@ -29,6 +29,7 @@ module _ (s t : Setup) (whole : IsWhole (setup_view s)) (names : t.names ≡ s.n
         tables = ap (λ (X : Store). X.tables) store ∙ ap (λ (b : NameBook). length b.tables) names;
       }
 
-  pub begins : {E : Type 0} (r : Result EngineModel E) → IfOk r (λ e. e.store ≡ store_of t) → IfOk r (λ e. e.names ≡ t.names) → IfOk r (λ e. e.events ≡ []) → IfOk r (λ e. e.ready ≡ false) → IfOk r (λ e. IsBeginning s e)
+  pub begins : {E : Type 0} (r : Result EngineModel E) → IfOk r (λ e. e.store ≡ store_of t) → IfOk r (λ e. e.names ≡ t.names) → IfOk r (λ e. e.events ≡ []) → IfOk r (λ e. e.ready ≡ false)
+      → IfOk r (λ e. IsBeginning s e)
   begins (Ok e) store named events ready = beginning e store named events ready
   begins (Err x) store named events ready = tt

@@ -26,14 +26,16 @@ body_fits X H s r left bytes some body none fits = go (committing H s r) refl
     go (Some t) e = omega (arith, (body t e).1, has_room H left s r t e fits)
 
 -- an answer that commits adds the record that the body spells
-pub record_added : (X Z : Store) (H L : List Event) (s : Session) (r : Request) (reply : Reply) (bytes : List ℕ) → reply ≡ (answer X H s r).0 → L ≡ (answer X H s r).1 → Z ≡ X → reply ≡ Committed → IsBodyFor X H s r bytes
+pub record_added : (X Z : Store) (H L : List Event) (s : Session) (r : Request) (reply : Reply) (bytes : List ℕ) → reply ≡ (answer X H s r).0 → L ≡ (answer X H s r).1 → Z ≡ X → reply ≡ Committed
+    → IsBodyFor X H s r bytes
     → (c : Record) × IsBody c bytes × (records_of Z.setup L ≡ records_of X.setup H ++ c ∷ [])
 record_added X Z H L s r reply bytes replied events store is body =
     let commit = commits X H L s r reply replied events is in
     (record_of X.setup H commit.number, (body commit.number commit.asked).0, records_more X Z H L commit.number store commit.events)
 
 -- any other answer adds none
-pub none_added : (X Z : Store) (H L : List Event) (s : Session) (r : Request) (reply : Reply) → reply ≡ (answer X H s r).0 → L ≡ (answer X H s r).1 → Z ≡ X → (reply ≡ Committed → ⊥) → records_of Z.setup L ≡ records_of X.setup H
+pub none_added : (X Z : Store) (H L : List Event) (s : Session) (r : Request) (reply : Reply) → reply ≡ (answer X H s r).0 → L ≡ (answer X H s r).1 → Z ≡ X → (reply ≡ Committed → ⊥)
+    → records_of Z.setup L ≡ records_of X.setup H
 none_added X Z H L s r reply replied events store never =
     ap (λ (Y : Store). records_of Y.setup L) store
     ∙ ap (records_of X.setup) events

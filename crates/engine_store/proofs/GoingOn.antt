@@ -11,7 +11,8 @@ use Rattle.tree_switch.proofs.Starting.{asked, same_events}
 use Rattle.epoch_store.specs.Told.{events_after}
 
 -- after a request, whether it was asked or not
-pub goes_on : (past : List EngineModel) (e f : EngineModel) (s : Session) (r : Request) (o : Option Reply) → f.store ≡ e.store → f.names ≡ e.names → f.events ≡ events_after o e.events (answer e.store e.events s r).1
+pub goes_on : (past : List EngineModel) (e f : EngineModel) (s : Session) (r : Request) (o : Option Reply) → f.store ≡ e.store → f.names ≡ e.names
+    → f.events ≡ events_after o e.events (answer e.store e.events s r).1
     → IsCourse (record { past = past; present = e }) → IsCourse (record { past = past; present = f })
 goes_on past e f s r None store names events g = further past e f store names (same_events past e f g store events) g
 goes_on past e f s r (Some reply) store names events g = further past e f store names (asked past e f s r g store events) g

@@ -3,6 +3,7 @@ pub mod Bodies
 pub mod Causes
 pub mod Errors
 pub mod GoingOn
+pub mod Halves
 pub mod Labels
 pub mod LifeGoesOn
 pub mod NextRows

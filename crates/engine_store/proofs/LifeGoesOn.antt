@@ -40,7 +40,8 @@ one_more T [] e f i rows l = (l.0, l.1, (i, rows, tt))
 one_more T (d ∷ past) e f i rows l = (l.0, l.1, one_more (left_by d) past e f i rows l.2)
 
 -- the engine after a request, whether it was asked or not
-pub asked_engine : (e f : EngineModel) (s : Session) (r : Request) (o : Option Reply) → f.store ≡ e.store → f.events ≡ events_after o e.events (answer e.store e.events s r).1 → IsOfEngine e → IsOfEngine f
+pub asked_engine : (e f : EngineModel) (s : Session) (r : Request) (o : Option Reply) → f.store ≡ e.store → f.events ≡ events_after o e.events (answer e.store e.events s r).1 → IsOfEngine e
+    → IsOfEngine f
 asked_engine e f s r o store events i = record {
   sound = subst (λ (X : Store). IsSound X.setup) (sym store) i.sound;
   reached = subst (λ (X : Store). IsReached X f.events) (sym store) (reached o events);
@@ -50,7 +51,8 @@ asked_engine e f s r o store events i = record {
     reached None is = subst (IsReached e.store) (sym is) i.reached
     reached (Some reply) is = reached_more e.store e.events s r i.reached f.events is
 
-pub lives_further : (T : Values) (past : List Epoch) (e f : EngineModel) (s : Session) (r : Request) (o : Option Reply) → f.store ≡ e.store → f.events ≡ events_after o e.events (answer e.store e.events s r).1
+pub lives_further : (T : Values) (past : List Epoch) (e f : EngineModel) (s : Session) (r : Request) (o : Option Reply) → f.store ≡ e.store
+    → f.events ≡ events_after o e.events (answer e.store e.events s r).1
     → IsLife T (record { past = past; present = e }) → IsLife T (record { past = past; present = f })
 lives_further T past e f s r o store events life =
     let i = asked_engine e f s r o store events life.engine in

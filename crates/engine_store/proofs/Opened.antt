@@ -21,7 +21,8 @@ module _ {D : Type 0} (seen : D → List ℕ) (may_leave : D → List ℕ → Ty
       → (IsCurrently d.layout.capacity d.current (seen d.disk) → Only (seen d.disk) (may_leave d.disk) → Keeps seen may_leave (row_of items) [] 0 j)
       → ((first : Values) (all : List Record) (least k : ℕ) → HasFound seen may_leave first all least k d → Keeps seen may_leave first (take k all) k j)
       → ((first : Values) (all : List Record) (least k : ℕ) → HasFound seen may_leave first all least k d → LeavesOnly moment left_since d.disk j.disk (Tells d.layout first all least))
-      → ((first : Values) (all : List Record) (least k : ℕ) → (found : HasFound seen may_leave first all least k d) → IsBegun found.list → LeavesOnly moment left_since d.disk j.disk (TellsOn d.layout first all least))
+      → ((first : Values) (all : List Record) (least k : ℕ) → (found : HasFound seen may_leave first all least k d) → IsBegun found.list
+      → LeavesOnly moment left_since d.disk j.disk (TellsOn d.layout first all least))
       → IsOpened seen may_leave moment left_since l start disk rows j
   opened rows items j same run begins keeps tells tells_on = record {
     has = subst (λ (rs : List (Cell × ℤ)). HasTable l start (row_of rs) (seen disk)) (sym same) was.has;
@@ -56,6 +57,7 @@ module _ {D : Type 0} (seen : D → List ℕ) (may_leave : D → List ℕ → Ty
         (λ c has. subst (λ (m : Layout). Tells m start all least c) was.layout has);
     any_moment_on = λ first all least tell.
         let found = was.found_on first all least tell in
-        and_then moment left_since disk d.disk j.disk (may_leave disk) (TellsOn d.layout first all least) (TellsOn l first all least) was.quiet.any_moment (tells_on first all least found.0 found.1 found.2) tell
+        and_then moment left_since disk d.disk j.disk (may_leave disk) (TellsOn d.layout first all least) (TellsOn l first all least) was.quiet.any_moment
+        (tells_on first all least found.0 found.1 found.2) tell
         (λ c has. subst (λ (m : Layout). TellsOn m first all least c) was.layout has);
   }

@@ -35,7 +35,8 @@ module _ {D : Type 0} (seen : D → List ℕ) (may_leave : D → List ℕ → Ty
     stays = refl;
   }
 
-  quiet_moment : (disk back : D) (P : List ℕ → Type 0) → IsQuiet seen may_leave moment left_since faults capacity disk back → ((c : List ℕ) → may_leave disk c → P c) → LeavesOnly moment left_since disk back P
+  quiet_moment : (disk back : D) (P : List ℕ → Type 0) → IsQuiet seen may_leave moment left_since faults capacity disk back → ((c : List ℕ) → may_leave disk c → P c)
+      → LeavesOnly moment left_since disk back P
   quiet_moment disk back P quiet all = weaker moment left_since disk back (may_leave disk) P all quiet.any_moment
 
   pub no_memory : (l : Layout) (start : Values) (tables : ℕ) (disk back : D) → IsQuiet seen may_leave moment left_since faults capacity disk back
@@ -128,7 +129,8 @@ module _ {D : Type 0} (seen : D → List ℕ) (may_leave : D → List ℕ → Ty
 
     faulted : (back : D) → Rose (faults d.disk) (faults back)
         → ((first : Values) (all : List Record) (least k : ℕ) → HasFound seen may_leave first all least k d → LeavesOnly moment left_since d.disk back (Tells d.layout first all least))
-        → ((first : Values) (all : List Record) (least k : ℕ) → (found : HasFound seen may_leave first all least k d) → IsBegun found.list → LeavesOnly moment left_since d.disk back (TellsOn d.layout first all least))
+        → ((first : Values) (all : List Record) (least k : ℕ) → (found : HasFound seen may_leave first all least k d) → IsBegun found.list
+        → LeavesOnly moment left_since d.disk back (TellsOn d.layout first all least))
         → IsRefused seen may_leave moment left_since faults capacity l start tables disk back store.DiskFault
     faulted back rose tells tells_on = record {
       damaged = λ at is. absurd (cc is);
@@ -144,7 +146,8 @@ module _ {D : Type 0} (seen : D → List ℕ) (may_leave : D → List ℕ → Ty
           (λ c has. subst (λ (m : Layout). Tells m start all least c) was.layout has);
       any_moment_on = λ first all least tell.
           let found = was.found_on first all least tell in
-          and_then moment left_since disk d.disk back (may_leave disk) (TellsOn d.layout first all least) (TellsOn l first all least) was.quiet.any_moment (tells_on first all least found.0 found.1 found.2) tell
+          and_then moment left_since disk d.disk back (may_leave disk) (TellsOn d.layout first all least) (TellsOn l first all least) was.quiet.any_moment
+          (tells_on first all least found.0 found.1 found.2) tell
           (λ c has. subst (λ (m : Layout). TellsOn m first all least c) was.layout has);
     }
 
@@ -154,7 +157,8 @@ module _ {D : Type 0} (seen : D → List ℕ) (may_leave : D → List ℕ → Ty
         ⊎ ((back ≡ d.disk) × ((e ≡ journal.OutOfMemory) ⊎ (e ≡ journal.Full × (half_size d.layout.capacity < 10 + length d.layout.label + 14 * length d.rows))))
         → ((first : Values) (all : List Record) (least k : ℕ) → (found : HasFound seen may_leave first all least k d) → IsBegun found.list → e ≡ journal.Full → ⊥)
         → ((first : Values) (all : List Record) (least k : ℕ) → HasFound seen may_leave first all least k d → LeavesOnly moment left_since d.disk back (Tells d.layout first all least))
-        → ((first : Values) (all : List Record) (least k : ℕ) → (found : HasFound seen may_leave first all least k d) → IsBegun found.list → LeavesOnly moment left_since d.disk back (TellsOn d.layout first all least))
+        → ((first : Values) (all : List Record) (least k : ℕ) → (found : HasFound seen may_leave first all least k d) → IsBegun found.list
+        → LeavesOnly moment left_since d.disk back (TellsOn d.layout first all least))
         → IsRefused seen may_leave moment left_since faults capacity l start tables disk back (as_open e)
     not_begun back e because not_full tells tells_on =
         let Is : JournalError → Type 0 = λ x. IsRefused seen may_leave moment left_since faults capacity l start tables disk back (as_open x) in

@@ -13,7 +13,8 @@ use Rattle.engine_store.specs.declared.open_error.OpenError.TheVariants as store
 use Rattle.engine_store.specs.Opening.{AllTellOn, HasForeignRow, HasRowOutside, IsRefused}
 
 -- a row of another table that was read is one that the records left
-left_outside : (l : Layout) (first start : Values) (all : List Record) (least tables at : ℕ) (file : List ℕ) → (on : TellsOn l first all least file) → HasForeignRow l start tables at file → HasRowOutside tables (after_records (take on.tells.k all) first)
+left_outside : (l : Layout) (first start : Values) (all : List Record) (least tables at : ℕ) (file : List ℕ) → (on : TellsOn l first all least file) → HasForeignRow l start tables at file
+    → HasRowOutside tables (after_records (take on.tells.k all) first)
 left_outside l first start all least tables at file on row =
     let t = on.tells in
     let list = t.stands.list in
@@ -26,7 +27,8 @@ left_outside l first start all least tables at file on row =
 
 module _ {D : Type 0} (seen : D → List ℕ) (may_leave : D → List ℕ → Type 0) (moment : D → ℕ) (left_since : D → ℕ → List ℕ → Type 0) (faults capacity : D → ℕ) where
   -- it is refused if the disk fails or memory is out, and for no other reason
-  pub reopens : (l : Layout) (start : Values) (tables : ℕ) (disk back : D) (why : OpenError) → may_leave disk (seen disk) → IsRefused seen may_leave moment left_since faults capacity l start tables disk back why
+  pub reopens : (l : Layout) (start : Values) (tables : ℕ) (disk back : D) (why : OpenError) → may_leave disk (seen disk)
+      → IsRefused seen may_leave moment left_since faults capacity l start tables disk back why
       → (first : Values) (all : List Record) (least : ℕ) → AllTellOn may_leave l first all least disk → ((k : ℕ) → HasRowOutside tables (after_records (take k all) first) → ⊥)
       → (why ≡ store.DiskFault) ⊎ (why ≡ store.OutOfMemory)
   reopens l start tables disk back why now refused first all least tell inside = go why refused

@@ -33,7 +33,8 @@ module _ {D : Type 0} (seen : D → List ℕ) (may_leave : D → List ℕ → Ty
   pub found_first : (T : Values) → GoesOn seen may_leave T [] least rows j → (x : Cell) → row_of rows x ≡ T x
   found_first T on x = on.left x ∙ ap (λ (rs : List Record). after_records rs T x) (take_all on.k [] (omega arith))
 
-pub life_reopened : {D : Type 0} (seen : D → List ℕ) (may_leave : D → List ℕ → Type 0) (j : JournalState D) (least : ℕ) (T : Values) (past : List Epoch) (e f : EngineModel) → IsOfEngine f → IsLife T (record { past = past; present = e })
+pub life_reopened : {D : Type 0} (seen : D → List ℕ) (may_leave : D → List ℕ → Type 0) (j : JournalState D) (least : ℕ) (T : Values) (past : List Epoch) (e f : EngineModel) → IsOfEngine f
+    → IsLife T (record { past = past; present = e })
     → GoesOn seen may_leave (row_of e.store.rows) (records_of e.store.setup e.events) least f.store.rows j
     → (k : ℕ) × (least ≤ k) × (k ≤ commit_count e.events) × IsLife T (record { past = past ++ epoch_with k e ∷ []; present = f })
 life_reopened seen may_leave j least T past e f is life on =

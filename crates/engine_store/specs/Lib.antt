@@ -1,3 +1,4 @@
+pub mod Halves
 pub mod Label
 pub mod Lives
 pub mod Next

@@ -56,7 +56,7 @@ impl<C: Chains, D: Disk> Model for EngineGroup<C, D> {
 }
 
 impl<C: Chains, D: Disk> EngineStore<C, D> {
-    /// The same store, whose next commits wait for the disk together, until `EngineGroup::sync`.
+    /// Returns the same store, whose next commits wait for the disk together, until `EngineGroup::sync`.
     pub fn begin_group(self, alloc: Global) -> EngineGroup<C, D>
         requires running { self.journal.stopped ≡ false }
         ensures { (result.engine ≡ self.engine) × (result.journal ≡ self.journal) × (result.waiting ≡ []) }
@@ -88,7 +88,7 @@ impl<C: Chains, D: Disk> EngineGroup<C, D> {
         ensures course { (past : List EngineModel) → IsCourse (record { past = past; present = self.old.engine }) → IsCourse (record { past = past; present = self.new.engine }) }
         ensures life { (T : Values) (past : List Epoch) → IsLife T (record { past = past; present = self.old.engine }) → IsLife T (record { past = past; present = self.new.engine }) }
 
-        // A commit waits, behind those that wait already.
+        // A commit waits, after those that wait already.
         ensures waits { IfOk result (λ reply. reply ≡ replies.Committed → (r : Record) × (self.new.waiting ≡ self.old.waiting ++ r ∷ [])) }
         ensures others { IfOk result (λ reply. (reply ≡ replies.Committed → ⊥) → self.new.waiting ≡ self.old.waiting) }
 
@@ -142,7 +142,7 @@ impl<C: Chains, D: Disk> EngineGroup<C, D> {
         (EngineStore { store }, written)
     }
 
-    /// The number of commits that wait. They are the last ones of the epoch, and all before them are acknowledged.
+    /// Returns the number of commits that wait. They are the last ones of the epoch, and all before them are acknowledged.
     pub fn waiting(&self) -> usize
         ensures count { result ≡ length self.now.waiting }
         ensures others { self.now.journal.acknowledged + length self.now.waiting ≡ commit_count self.now.engine.events }
@@ -150,14 +150,14 @@ impl<C: Chains, D: Disk> EngineGroup<C, D> {
         self.group.waiting()
     }
 
-    /// The number of bytes that are left for the commits of this epoch, beside those that wait.
+    /// Returns the number of bytes that are left for the commits of this epoch, beside those that wait.
     pub fn left(&self) -> u64
         ensures { result + (self.now.journal.end + size_of self.now.waiting) ≡ half_size self.now.journal.layout.capacity }
     {
         self.group.left()
     }
 
-    /// The engine of the present epoch.
+    /// Returns the engine of the present epoch.
     pub fn engine(&self) -> &Engine<C>
         ensures engine { result.now ≡ self.now.engine }
 

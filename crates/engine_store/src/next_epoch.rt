@@ -153,7 +153,8 @@ fn begin_next<C: Chains, D: Disk>(
     requires setup { IsWhole (setup_view setup) }
     requires chains { (x : TheCell) → C.lists chains x ≡ [] }
     ensures refused { MatchResult result (λ _. MayFollow store.old.engine.engine setup.names.tables) (IsCause store.old.journal.layout store.old.engine.engine setup.names.tables) }
-    ensures begun { IfOk result (λ past. (past ≡ store.old.engine.engine) × IsStarted setup store.old.engine.engine store.new.engine.engine × (store.new.journal.acknowledged ≡ 0) × (store.new.journal.stopped ≡ false)) }
+    ensures begun { IfOk result (λ past. (past ≡ store.old.engine.engine) × IsStarted setup store.old.engine.engine store.new.engine.engine × (store.new.journal.acknowledged ≡ 0)
+        × (store.new.journal.stopped ≡ false)) }
     ensures engine { IfOk result (λ _. IsOfEngine store.new.engine.engine) }
     ensures rows { IfOk result (λ _. (x : TheCell) → row_of store.new.engine.engine.store.rows x
         ≡ after_records (records_of store.old.engine.engine.store.setup store.old.engine.engine.events) (row_of store.old.engine.engine.store.rows) x) }
@@ -186,7 +187,7 @@ fn begin_next<C: Chains, D: Disk>(
 /// Returns the engine of the next epoch: under a setup, with the rows that the commits of an engine leave as its starting rows.
 ///
 /// # Errors
-/// The first of the causes that stands against it; the engine is only read.
+/// Returns the first cause that keeps the next epoch from beginning, if there is one. The engine is only read.
 pub fn next_engine<C: Chains>(
     alloc: Global,
     engine: &Engine<C>,

@@ -1,6 +1,6 @@
 //! How a store is opened.
 
-ghost use Rattle.std.specs.Prelude.{◌≡◌, ◌⊎◌, ◌≤◌, ◌++◌, ◌∷◌, [], false, List, ℕ, length, take, IfOk, IfErr};
+ghost use Rattle.std.specs.Prelude.{◌≡◌, ◌⊎◌, ◌+◌, ◌*◌, ◌≤◌, ◌++◌, ◌∷◌, [], false, List, ℕ, length, take, IfOk, IfErr};
 ghost use Rattle.teb_names.specs.declared.Cell.{Cell as TheCell};
 ghost use Rattle.teb_names.specs.Rows.{row_of};
 ghost use Rattle.teb_history.specs.declared.Event.{Event};
@@ -11,10 +11,12 @@ ghost use Rattle.teb_laws.specs.Lawful.{Lawful};
 ghost use Rattle.store_setup.specs.SetupView.{setup_view};
 ghost use Rattle.store_setup.specs.Sound.{IsWhole};
 ghost use Rattle.engine_core.specs.EngineModel.{EngineModel};
+ghost use Rattle.crash_disk.specs.Calls.{IsUpTo};
 ghost use Rattle.crash_disk.specs.Disk.{LeavesOnly};
 ghost use Rattle.commit_laws.specs.Commits.{commit_count, rows_after};
 ghost use Rattle.record_journal.specs.Format.{Record};
 ghost use Rattle.record_journal.specs.Journal.{after_records};
+ghost use Rattle.epoch_journal.specs.Layout.{half_size};
 ghost use Rattle.epoch_journal.specs.Telling.{Tells};
 ghost use Rattle.engine_store.specs.Lives.{Epoch, IsLife, epoch_with};
 ghost use Rattle.engine_store.specs.Opening.{AllTellOn, HasRowOutside, HasTable, IsBeginning, IsRefused, layout_of};
@@ -79,6 +81,10 @@ impl<C: Chains, D: Disk> EngineStore<C, D> {
         ensures reopens { (first : Values) (all : List Record) (least : ℕ) → AllTellOn D.may_leave (layout_of (D.capacity disk) setup) first all least disk
             → ((k : ℕ) → HasRowOutside (length setup.names.tables) (after_records (take k all) first) → ⊥)
             → IfErr result (λ back. (back.why ≡ errors.DiskFault) ⊎ (back.why ≡ errors.OutOfMemory)) }
+
+        // At most so many calls of the disk, which write no more than fits a half, and the front.
+        ensures calls { IfOk result (λ s. IsUpTo (3 * half_size (D.capacity disk) + 28) (half_size (D.capacity disk) + 14) (D.tally disk) (D.tally s.journal.disk)) }
+        ensures calls_back { IfErr result (λ back. IsUpTo (3 * half_size (D.capacity disk) + 28) (half_size (D.capacity disk) + 14) (D.tally disk) (D.tally back.disk)) }
     {
         match open_parts(alloc, disk, setup, chains) {
             Ok((engine, journal)) => Ok(EngineStore {

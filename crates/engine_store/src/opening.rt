@@ -1,10 +1,12 @@
 //! How a store is opened: the rows of the disk are read, an engine begins with them, and so does an epoch of the journal.
 
-ghost use Rattle.std.specs.Prelude.{◌≡◌, ◌<◌, [], length, IfOk, IfErr};
+ghost use Rattle.std.specs.Prelude.{◌≡◌, ◌+◌, ◌*◌, ◌<◌, [], length, IfOk, IfErr};
 ghost use Rattle.teb_names.specs.declared.Cell.{Cell as TheCell};
 ghost use Rattle.teb_names.specs.Rows.{row_of, IsAscending};
 ghost use Rattle.store_setup.specs.SetupView.{setup_view};
 ghost use Rattle.store_setup.specs.Sound.{IsWhole};
+ghost use Rattle.crash_disk.specs.Calls.{IsUpTo};
+ghost use Rattle.epoch_journal.specs.Layout.{half_size};
 ghost use Rattle.epoch_journal.specs.Read.{half_found_at};
 ghost use Rattle.engine_store.specs.Opening.{AreOfTables, HasRowOutside, IsBeginning, IsOpened, IsRefused, layout_of};
 ghost use Rattle.engine_store.specs.OpeningSteps.{IsRecovered};
@@ -40,6 +42,8 @@ pub(crate) fn open_parts<C: Chains, D: Disk>(
     ensures opened { IfOk result (λ o. IsOpened D.seen D.may_leave D.moment D.left_since (layout_of (D.capacity disk) setup) (row_of setup.rows) disk o.0.store.rows o.1) }
     ensures refused { IfErr result (λ back. IsRefused D.seen D.may_leave D.moment D.left_since D.faults D.capacity
         (layout_of (D.capacity disk) setup) (row_of setup.rows) (length setup.names.tables) disk back.disk back.why) }
+    ensures calls { IfOk result (λ o. IsUpTo (3 * half_size (D.capacity disk) + 28) (half_size (D.capacity disk) + 14) (D.tally disk) (D.tally o.1.disk)) }
+    ensures calls_back { IfErr result (λ back. IsUpTo (3 * half_size (D.capacity disk) + 28) (half_size (D.capacity disk) + 14) (D.tally disk) (D.tally back.disk)) }
 {
     let recovered = match recover(alloc, disk, &setup) {
         Ok(recovered) => recovered,
@@ -71,6 +75,8 @@ fn recover<D: Disk>(alloc: Global, disk: D, setup: &Setup) -> Result<RecoveredDi
     ensures inside { IfOk result (λ d. AreOfTables (length setup.now.names.tables) d.rows) }
     ensures refused { IfErr result (λ back. IsRefused D.seen D.may_leave D.moment D.left_since D.faults D.capacity
         (layout_of (D.capacity disk) setup.now) (row_of setup.now.rows) (length setup.now.names.tables) disk back.disk back.why) }
+    ensures calls { IfOk result (λ d. IsUpTo (3 * half_size (D.capacity disk) + 20) 0 (D.tally disk) (D.tally d.disk)) }
+    ensures calls_back { IfErr result (λ back. IsUpTo (3 * half_size (D.capacity disk) + 20) 0 (D.tally disk) (D.tally back.disk)) }
 {
     let label = match label_of(alloc, &setup.names.tables) {
         Ok(label) => label,
@@ -112,7 +118,7 @@ fn check_rows<D: Disk>(
     })
 }
 
-/// Returns an engine under a setup, with these rows in place of its own. Nothing has happened in it.
+/// Returns an engine under a setup, with these rows in place of those of the setup. Nothing has happened in it.
 fn engine_over<C: Chains>(
     alloc: Global,
     setup: Setup,

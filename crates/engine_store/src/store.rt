@@ -106,7 +106,7 @@ impl<C: Chains, D: Disk> EngineStore<C, D> {
         self.store.ask(alloc, session, request)
     }
 
-    /// The engine of the present epoch.
+    /// Returns the engine of the present epoch.
     pub fn engine(&self) -> &Engine<C>
         ensures engine { result.now ≡ self.now.engine }
         ensures label { self.now.journal.layout.label ≡ label_of self.now.engine.names.tables }
@@ -140,21 +140,21 @@ impl<C: Chains, D: Disk> EngineStore<C, D> {
         self.store.is_stopped()
     }
 
-    /// The number of commits of this epoch that were answered.
+    /// Returns the number of commits of this epoch that were answered.
     pub fn acknowledged(&self) -> u64
         ensures { result ≡ self.now.journal.acknowledged }
     {
         self.store.acknowledged()
     }
 
-    /// The number of bytes that are left for the commits of this epoch.
+    /// Returns the number of bytes that are left for the commits of this epoch.
     pub fn left(&self) -> u64
         ensures { result + self.now.journal.end ≡ half_size self.now.journal.layout.capacity }
     {
         self.store.left()
     }
 
-    /// The disk. A crash leaves the rows after the first commits of it, at least those that were answered.
+    /// Returns the disk. A crash leaves the rows after the first commits of it, at least those that were answered.
     pub fn disk(&self) -> &D
         ensures disk { result.now ≡ self.now.journal.disk }
         ensures images { (image : List ℕ) → D.may_leave self.now.journal.disk image
@@ -164,7 +164,7 @@ impl<C: Chains, D: Disk> EngineStore<C, D> {
         self.store.disk()
     }
 
-    /// The disk, as it is. The engine is dropped. The disk may be opened again, also after a fault.
+    /// Returns the disk, as it is. The engine is dropped. The disk may be opened again, also after a fault.
     pub fn into_disk(self) -> D
         ensures disk { result ≡ self.journal.disk }
         ensures capacity { D.capacity result ≡ self.journal.layout.capacity }

@@ -10,7 +10,8 @@ use Rattle.epoch_journal.proofs.Fronts.{behind_front, same_selector, same_front,
 use Rattle.epoch_journal.proofs.Staging.{written_behind, marked}
 use Rattle.epoch_journal.proofs.Bodies.{records-append, all_append, length-bodies, marked_bodies}
 
-module _ (l : Layout) (first : Bool) (rs more : List Record) (end : ℕ) (bytes f : List ℕ) (added : AreBodies more bytes) (some : 0 < length bytes) (resting : IsResting l first rs end f) (room : end + 1 + length bytes ≤ half_size l.capacity) where
+module _ (l : Layout) (first : Bool) (rs more : List Record) (end : ℕ) (bytes f : List ℕ) (added : AreBodies more bytes) (some : 0 < length bytes) (resting : IsResting l first rs end f)
+    (room : end + 1 + length bytes ≤ half_size l.capacity) where
   abbrev b : ℕ
   b = half_at l.capacity first
 
@@ -33,7 +34,8 @@ module _ (l : Layout) (first : Bool) (rs more : List Record) (end : ℕ) (bytes 
   behind p c is torn = record {
     fronted = same_fronted l.capacity p (length bytes) f c torn (omega (arith, is, behind_front l.capacity first)) resting.fronted;
     selects = same_selector p (length bytes) f c torn (omega (arith, is)) (omega (arith, long)) ∙ resting.selects;
-    has = inl (half_front l rs (end + 1) (half l first f) (half l first c) shut (omega (arith, resting.size)) (same_front (end + 1) b p (length bytes) f c torn long (λ i lt. inl (omega (arith, is, lt)))));
+    has = inl (half_front l rs (end + 1) (half l first f) (half l first c) shut (omega (arith, resting.size))
+        (same_front (end + 1) b p (length bytes) f c torn long (λ i lt. inl (omega (arith, is, lt)))));
   }
 
   module _ (p : ℕ) (mid : List ℕ) (is : p ≡ b + end + 1) (torn : IsTorn p (length bytes) f mid) (holds : Holds p bytes mid) where
@@ -81,7 +83,14 @@ module _ (l : Layout) (first : Bool) (rs more : List Record) (end : ℕ) (bytes 
             rest = rest;
             is = opened (half l first c) (get_or (half l first c) end 0) (parts q c same mark) is_open;
           })
-          | inr is_shut ↦ inl (record { fit = shut.fit; within = shut.within; mark = get_or (half l first c) end 0; ends = is_shut; rest = tail; is = parts q c same mark ∙ append_assoc (header l.label) (records rs) (get_or (half l first c) end 0 ∷ tail) })
+          | inr is_shut ↦ inl (record {
+            fit = shut.fit;
+            within = shut.within;
+            mark = get_or (half l first c) end 0;
+            ends = is_shut;
+            rest = tail;
+            is = parts q c same mark ∙ append_assoc (header l.label) (records rs) (get_or (half l first c) end 0 ∷ tail);
+          })
         ]
 
     pub rests : (q : ℕ) (c : List ℕ) → q ≡ b + end → IsTorn q 1 mid c → Holds q (1 ∷ []) c → IsResting l first (rs ++ more) (end + length bytes) c

@@ -18,7 +18,8 @@ use Rattle.epoch_journal.proofs.Settling.{at_has}
 use Rattle.epoch_journal.proofs.Room.{rows_fit}
 
 -- the old records, or the checkpoint of what they left
-pub tells_again : {D : Type 0} (seen : D → List ℕ) (may_leave : D → List ℕ → Type 0) (start : Values) (all : List Record) (least k : ℕ) (d : RecoveredState D) → (found : HasFound seen may_leave start all least k d) → (c : List ℕ)
+pub tells_again : {D : Type 0} (seen : D → List ℕ) (may_leave : D → List ℕ → Type 0) (start : Values) (all : List Record) (least k : ℕ) (d : RecoveredState D)
+    → (found : HasFound seen may_leave start all least k d) → (c : List ℕ)
     → HasOneOf d.layout found.list (checkpoint_of d.rows ∷ []) c → Tells d.layout start all least c
 tells_again seen may_leave start all least k d found c has = record {
   k = k;
@@ -30,7 +31,8 @@ tells_again seen may_leave start all least k d found c has = record {
       has;
 }
 
-pub tells_on_again : {D : Type 0} (seen : D → List ℕ) (may_leave : D → List ℕ → Type 0) (start : Values) (all : List Record) (least k : ℕ) (d : RecoveredState D) → (found : HasFound seen may_leave start all least k d) → IsBegun found.list
+pub tells_on_again : {D : Type 0} (seen : D → List ℕ) (may_leave : D → List ℕ → Type 0) (start : Values) (all : List Record) (least k : ℕ) (d : RecoveredState D)
+    → (found : HasFound seen may_leave start all least k d) → IsBegun found.list
     → (c : List ℕ) → HasOneOf d.layout found.list (checkpoint_of d.rows ∷ []) c → TellsOn d.layout start all least c
 tells_on_again seen may_leave start all least k d found begun c (inl old) = record {
   tells = record { k = k; no_fewer = found.no_fewer; no_more = found.no_more; stands = record { list = found.list; has = old; table = found.table } };
@@ -47,13 +49,16 @@ tells_on_again seen may_leave start all least k d found begun c (inr new) = reco
 }
 
 -- what was found of a disk with a checkpoint, of the same disk under another name
-pub begun_found : {D : Type 0} (seen : D → List ℕ) (may_leave : D → List ℕ → Type 0) (start : Values) (all : List Record) (least k : ℕ) (d e : RecoveredState D) → d ≡ e → (found : HasFound seen may_leave start all least k e) → IsBegun found.list
+pub begun_found : {D : Type 0} (seen : D → List ℕ) (may_leave : D → List ℕ → Type 0) (start : Values) (all : List Record) (least k : ℕ) (d e : RecoveredState D) → d ≡ e
+    → (found : HasFound seen may_leave start all least k e) → IsBegun found.list
     → (same : HasFound seen may_leave start all least k d) × IsBegun same.list
 begun_found {D} seen may_leave start all least k d e same found begun =
     subst (λ (s : RecoveredState D). (h : HasFound seen may_leave start all least k s) × IsBegun h.list) (sym same) (found, begun)
 
-pub begun_keeps : {D : Type 0} (seen : D → List ℕ) (may_leave : D → List ℕ → Type 0) (start : Values) (all : List Record) (least k : ℕ) (d : RecoveredState D) → (found : HasFound seen may_leave start all least k d)
-    → (j : JournalState D) → j.end < half_size j.layout.capacity → IsResting j.layout j.first (checkpoint_of d.rows ∷ []) j.end (seen j.disk) → Only (seen j.disk) (may_leave j.disk) → Keeps seen may_leave start (take k all) k j
+pub begun_keeps : {D : Type 0} (seen : D → List ℕ) (may_leave : D → List ℕ → Type 0) (start : Values) (all : List Record) (least k : ℕ) (d : RecoveredState D)
+    → (found : HasFound seen may_leave start all least k d)
+    → (j : JournalState D) → j.end < half_size j.layout.capacity → IsResting j.layout j.first (checkpoint_of d.rows ∷ []) j.end (seen j.disk) → Only (seen j.disk) (may_leave j.disk)
+    → Keeps seen may_leave start (take k all) k j
 begun_keeps seen may_leave start all least k d found j below resting durable =
     runs seen may_leave start (take k all) k j below (sym (length-take-le k all found.no_more)) (record {
       past = take k all;
@@ -66,7 +71,8 @@ begun_keeps seen may_leave start all least k d found j below resting durable =
     })
 
 -- a disk that tells records, and what was read of it
-pub found_of : {D : Type 0} (seen : D → List ℕ) (may_leave : D → List ℕ → Type 0) (start : Values) (all : List Record) (least : ℕ) (file : List ℕ) (d : RecoveredState D) → (t : Tells d.layout start all least file) → (rs : List Record)
+pub found_of : {D : Type 0} (seen : D → List ℕ) (may_leave : D → List ℕ → Type 0) (start : Values) (all : List Record) (least : ℕ) (file : List ℕ) (d : RecoveredState D)
+    → (t : Tells d.layout start all least file) → (rs : List Record)
     → IsReadAs d.layout rs file → ((x : Cell) → row_of d.rows x ≡ table_of start rs x) → IsCurrently d.layout.capacity d.current file → seen d.disk ≡ file → Only (seen d.disk) (may_leave d.disk)
     → HasFound seen may_leave start all least t.k d
 found_of seen may_leave start all least file d t rs read rows current same durable =
@@ -83,7 +89,8 @@ found_of seen may_leave start all least file d t rs read rows current same durab
     }
 
 -- so too a disk with a checkpoint, whatever rows it was read with
-pub found_on_of : {D : Type 0} (seen : D → List ℕ) (may_leave : D → List ℕ → Type 0) (first start : Values) (all : List Record) (least : ℕ) (file : List ℕ) (d : RecoveredState D) → TellsOn d.layout first all least file → (rs : List Record)
+pub found_on_of : {D : Type 0} (seen : D → List ℕ) (may_leave : D → List ℕ → Type 0) (first start : Values) (all : List Record) (least : ℕ) (file : List ℕ) (d : RecoveredState D)
+    → TellsOn d.layout first all least file → (rs : List Record)
     → IsReadAs d.layout rs file → ((x : Cell) → row_of d.rows x ≡ table_of start rs x) → IsCurrently d.layout.capacity d.current file → seen d.disk ≡ file → Only (seen d.disk) (may_leave d.disk)
     → (k : ℕ) × (found : HasFound seen may_leave first all least k d) × IsBegun found.list
 unfolding found_of
@@ -93,7 +100,8 @@ found_on_of seen may_leave first start all least file d on rs read rows current 
     (t.k, found_of seen may_leave first all least file d t rs read (λ x. rows x ∙ same_list start first rs x begun) current same durable, on.begun)
 
 -- and its rows fit the other half
-pub finds_room : {D : Type 0} (seen : D → List ℕ) (may_leave : D → List ℕ → Type 0) (start : Values) (all : List Record) (least k : ℕ) (d : RecoveredState D) → (found : HasFound seen may_leave start all least k d) → IsBegun found.list
+pub finds_room : {D : Type 0} (seen : D → List ℕ) (may_leave : D → List ℕ → Type 0) (start : Values) (all : List Record) (least k : ℕ) (d : RecoveredState D)
+    → (found : HasFound seen may_leave start all least k d) → IsBegun found.list
     → IsAscending d.rows → 10 + length d.layout.label + 14 * length d.rows ≤ half_size d.layout.capacity
 finds_room seen may_leave start all least k d found begun up =
     rows_fit d.layout start found.list d.rows (seen d.disk) (at_has d.layout found.list d.current (seen d.disk) found.at) begun up (λ x. found.rows x ∙ sym (found.table x))

@@ -27,7 +27,8 @@ too_few : (n : ℕ) (bytes : List ℕ) → length bytes < 14 * n → changes_of 
 too_few zero bytes below = absurd (omega arith)
 too_few (suc n) bytes below = elim (cases_lt (length bytes) 14) [
   | inl lt ↦ step_short n bytes lt
-  | inr le ↦ step_long n bytes le ∙ ap (λ (o : Option Record). follow (change_of (take 14 bytes)) o) (too_few n (drop 14 bytes) (omega (arith, length-drop 14 bytes))) ∙ follow_none (change_of (take 14 bytes))
+  | inr le ↦ step_long n bytes le ∙ ap (λ (o : Option Record). follow (change_of (take 14 bytes)) o) (too_few n (drop 14 bytes) (omega (arith, length-drop 14 bytes)))
+      ∙ follow_none (change_of (take 14 bytes))
 ]
 
 no_changes : (x y : List ℕ) → changes_of 0 x ≡ changes_of 0 y
@@ -164,7 +165,8 @@ module _ (file front : List ℕ) (at until n : ℕ) (few : n ≡ min (until - at
       module _ (body : List ℕ) (m p : ℕ) (is : m ≡ 4 + 14 * count_in front) (fits : m < until - at) (next_to : p ≡ at + 1) (body_is : body ≡ take m (drop p file)) where
         same_record : record_of body ≡ record_of behind
         same_record =
-            ap record_of (body_is ∙ ap (λ (k : ℕ). take m (drop k file)) next_to ∙ sym (take-take m (until - at - 1) (drop (at + 1) file) (omega arith)) ∙ ap (λ (t : List ℕ). take m t) (sym (area_drop 1 (until - at) at file (omega arith))))
+            ap record_of (body_is ∙ ap (λ (k : ℕ). take m (drop k file)) next_to ∙ sym (take-take m (until - at - 1) (drop (at + 1) file) (omega arith))
+            ∙ ap (λ (t : List ℕ). take m t) (sym (area_drop 1 (until - at) at file (omega arith))))
             ∙ record_front (count_in front) behind counted (omega (arith, length-behind)) m is (omega (arith, length-behind))
 
         length-body : length body ≡ m

@@ -129,7 +129,8 @@ label_fits l (r ∷ rs) file (inl now) begun = omega (arith, now.has.within, len
 label_fits l (r ∷ rs) file (inr none) begun = absurd (cc none.0)
 
 -- and for a checkpoint of the rows that its records leave
-pub rows_fit : (l : Layout) (start : Values) (rs : List Record) (rows : List (Cell × ℤ)) (file : List ℕ) → HasRecords l rs file → IsBegun rs → IsAscending rows → ((x : Cell) → row_of rows x ≡ table_of start rs x)
+pub rows_fit : (l : Layout) (start : Values) (rs : List Record) (rows : List (Cell × ℤ)) (file : List ℕ) → HasRecords l rs file → IsBegun rs → IsAscending rows
+    → ((x : Cell) → row_of rows x ≡ table_of start rs x)
     → 10 + length l.label + 14 * length rows ≤ half_size l.capacity
 rows_fit l start [] rows file has begun up is = absurd begun
 rows_fit l start (r ∷ rs) rows file (inl now) begun up is = omega (arith, now.has.within, length-header l.label, small_rows rows (r ∷ rs) up is)

@@ -17,7 +17,8 @@ module _ (pre : List ℕ) (end : ℕ) (size : end ≡ length pre) where
   pub written_behind : (bytes old rest c : List ℕ) → old ≡ pre ++ 0 ∷ rest → 0 < length bytes → IsTorn (end + 1) (length bytes) old c → Holds (end + 1) bytes c
       → c ≡ pre ++ 0 ∷ (bytes ++ drop (end + 1 + length bytes) c)
   written_behind bytes old rest c is some torn holds =
-      three_parts (end + 1) (length bytes) c (pre ++ 0 ∷ []) bytes (torn_front (end + 1) (length bytes) old c torn (long_enough old rest is) ∙ front_of old rest is) (holds_middle (end + 1) bytes c holds some)
+      three_parts (end + 1) (length bytes) c (pre ++ 0 ∷ []) bytes (torn_front (end + 1) (length bytes) old c torn (long_enough old rest is) ∙ front_of old rest is)
+      (holds_middle (end + 1) bytes c holds some)
       ∙ append_assoc (pre ++ 0 ∷ []) bytes (drop (end + 1 + length bytes) c)
       ∙ append_assoc pre (0 ∷ []) (bytes ++ drop (end + 1 + length bytes) c)
 

@@ -61,7 +61,8 @@ module _ (l : Layout) (file : List ℕ) (first : Bool) (long : 13 < length file)
     }),
   )
 
-  module _ (base most size n : ℕ) (found : List ℕ) (base_is : base ≡ half_at l.capacity first) (inside : base < length file) (most_is : most ≡ min (length file - base) (half_size l.capacity)) (size_is : size ≡ length (header l.label)) (fits : size ≤ half_size l.capacity)
+  module _ (base most size n : ℕ) (found : List ℕ) (base_is : base ≡ half_at l.capacity first) (inside : base < length file) (most_is : most ≡ min (length file - base) (half_size l.capacity))
+      (size_is : size ≡ length (header l.label)) (fits : size ≤ half_size l.capacity)
       (n_is : n ≡ min most size) (read : found ≡ take n (drop base file)) where
     here : half l (is_first file) file ≡ drop base file
     here = ap (λ (b : Bool). drop (half_at l.capacity b) file) selects ∙ ap (λ (k : ℕ). drop k file) (sym base_is)
@@ -100,8 +101,10 @@ module _ (l : Layout) (file : List ℕ) (first : Bool) (long : 13 < length file)
 
       pub same_reading : (at until : ℕ) → at ≡ base + size → until ≡ base + most → reading 0 at (take (until - at) (drop at file)) ≡ half_reading l file
       same_reading at until at_is until_is =
-          let there : at ≡ records_at l file = at_is ∙ ap (λ (k : ℕ). k + size) (base_is ∙ sym (ap (λ (b : Bool). half_at l.capacity b) selects)) ∙ ap (λ (k : ℕ). half_at l.capacity (is_first file) + k) size_is in
-          ap (λ (t : List ℕ). reading 0 at t) (take_enough (until - at) (half_size l.capacity - length (header l.label)) (drop at file) (omega (arith, at_is, until_is, most_is, size_is, full, n_is, length-drop at file)))
+          let there : at ≡ records_at l file = at_is ∙ ap (λ (k : ℕ). k + size) (base_is ∙ sym (ap (λ (b : Bool). half_at l.capacity b) selects))
+          ∙ ap (λ (k : ℕ). half_at l.capacity (is_first file) + k) size_is in
+          ap (λ (t : List ℕ). reading 0 at t)
+          (take_enough (until - at) (half_size l.capacity - length (header l.label)) (drop at file) (omega (arith, at_is, until_is, most_is, size_is, full, n_is, length-drop at file)))
           ∙ ap (λ (k : ℕ). reading 0 k (take (half_size l.capacity - length (header l.label)) (drop k file))) there
 
       pub read_as : (rs : List Record) (at until : ℕ) → at ≡ base + size → until ≡ base + most → reading 0 at (take (until - at) (drop at file)) ≡ Whole rs → IsReadAs l rs file

@@ -46,61 +46,63 @@ turned l first rs f c turn is settled = record {
       settled.has;
 }
 
-module _ (l : Layout) (first : Bool) (rs : List Record) (r : Record) (piece f : List ℕ) (is_piece : IsPiece l r piece) (settled : IsSettled l first rs f) (room : length piece ≤ half_size l.capacity) where
-  -- while the other half is written
-  elsewhere : (p : ℕ) (c : List ℕ) → p ≡ half_at l.capacity (not first) → IsTorn p (length piece) f c → IsSettled l first rs c
-  elsewhere p c is torn = record {
-    fronted = same_fronted l.capacity p (length piece) f c torn (omega (arith, is, behind_front l.capacity (not first))) settled.fronted;
-    selects = same_selector p (length piece) f c torn (omega (arith, is, behind_front l.capacity (not first))) (omega (arith, settled.fronted.long)) ∙ settled.selects;
-    has = ⊎_elim (λ whole. inl (still whole)) (λ none. inr (none.0, none.1, omega (arith, torn.no_longer, none.2, is, low l.capacity first none.0, room))) settled.has;
-  }
-    where
-      still : IsHalf l rs (half l first f) → IsHalf l rs (half l first c)
-      still whole =
-          let m = length (header l.label) + length (records rs) + 1 in
-          half_front l rs m (half l first f) (half l first c) whole refl
-          (same_front m (half_at l.capacity first) p (length piece) f c torn (far_half l first rs f whole) (λ i lt. apart l.capacity first p (length piece) m i is room lt (omega (arith, whole.within))))
-
-  pub still_current : (p : ℕ) (c : List ℕ) → p ≡ half_at l.capacity (not first) → IsTorn p (length piece) f c → IsEither l first rs r c
-  still_current p c is torn = inl (elsewhere p c is torn)
-
-  length-piece : length piece ≡ length (header l.label) + length (records (r ∷ [])) + 1
-  length-piece = omega (arith, ap length is_piece.is, length-append (header l.label) (1 ∷ (body r ++ 0 ∷ [])), length-append (body r) (0 ∷ []), length-append (body r) [])
-
-  module _ (p : ℕ) (mid : List ℕ) (is : p ≡ half_at l.capacity (not first)) (torn : IsTorn p (length piece) f mid) (holds : Holds p piece mid) where
-    so : IsSettled l first rs mid
-    so = elsewhere p mid is torn
-
-    abbrev there : List ℕ
-    there = half l (not first) mid
-
-    begun : there ≡ header l.label ++ (records (r ∷ []) ++ 0 ∷ drop (length piece) there)
-    begun =
-        two_parts (length piece) there piece (holds_middle 0 piece there (holds_half (half_at l.capacity (not first)) 0 p piece mid (omega (arith, is)) holds) (omega (arith, length-piece)))
-        ∙ ap (λ (t : List ℕ). t ++ drop (length piece) there) is_piece.is
-        ∙ append_assoc (header l.label) (1 ∷ (body r ++ 0 ∷ [])) (drop (length piece) there)
-        ∙ ap (λ (t : List ℕ). header l.label ++ (1 ∷ t)) (append_assoc (body r) (0 ∷ []) (drop (length piece) there) ∙ sym (append_assoc (body r) [] (0 ∷ drop (length piece) there)))
-
-    rests : (c : List ℕ) → IsTorn 0 1 mid c → is_first c ≡ not first → IsResting l (not first) (r ∷ []) (length piece - 1) c
-    rests c turn selects = record {
-      fronted = turned_fronted l.capacity mid c turn so.fronted;
-      selects = selects;
-      fit = (is_piece.fits, tt);
-      size = omega (arith, length-piece);
-      rest = drop (length piece) there;
-      is = same_half l (not first) mid c turn (omega (arith, so.fronted.long)) ∙ begun;
+module _ (l : Layout) (first : Bool) (rs : List Record) (r : Record) (piece f : List ℕ) (is_piece : IsPiece l r piece) (settled : IsSettled l first rs f) (room : length piece ≤ half_size l.capacity)
+  where
+    -- while the other half is written
+    elsewhere : (p : ℕ) (c : List ℕ) → p ≡ half_at l.capacity (not first) → IsTorn p (length piece) f c → IsSettled l first rs c
+    elsewhere p c is torn = record {
+      fronted = same_fronted l.capacity p (length piece) f c torn (omega (arith, is, behind_front l.capacity (not first))) settled.fronted;
+      selects = same_selector p (length piece) f c torn (omega (arith, is, behind_front l.capacity (not first))) (omega (arith, settled.fronted.long)) ∙ settled.selects;
+      has = ⊎_elim (λ whole. inl (still whole)) (λ none. inr (none.0, none.1, omega (arith, torn.no_longer, none.2, is, low l.capacity first none.0, room))) settled.has;
     }
+      where
+        still : IsHalf l rs (half l first f) → IsHalf l rs (half l first c)
+        still whole =
+            let m = length (header l.label) + length (records rs) + 1 in
+            half_front l rs m (half l first f) (half l first c) whole refl
+            (same_front m (half_at l.capacity first) p (length piece) f c torn (far_half l first rs f whole)
+            (λ i lt. apart l.capacity first p (length piece) m i is room lt (omega (arith, whole.within))))
 
-    pub either : (c : List ℕ) → IsTorn 0 1 mid c → IsEither l first rs r c
-    either c turn = ⊎_elim
-        (λ same. inl (turned l first rs mid c turn same so))
-        (λ other.
-        let resting = rests c turn other in
-        inr (record { fronted = resting.fronted; selects = other; has = inl (rests_half l (not first) (r ∷ []) (length piece - 1) c resting (omega (arith, room, length-piece))) }))
-        (two_values (is_first c) first)
+    pub still_current : (p : ℕ) (c : List ℕ) → p ≡ half_at l.capacity (not first) → IsTorn p (length piece) f c → IsEither l first rs r c
+    still_current p c is torn = inl (elsewhere p c is torn)
 
-    pub switched : (v : ℕ) (c : List ℕ) → ((first ≡ true) × (v ≡ 0)) ⊎ ((first ≡ false) × (v ≡ 1)) → IsTorn 0 1 mid c → Holds 0 (v ∷ []) c → IsResting l (not first) (r ∷ []) (length piece - 1) c
-    switched v c chosen turn written = rests c turn (ap (λ (n : ℕ). eqb n 1) (written.each 0 (omega arith)) ∙ selected first v chosen)
+    length-piece : length piece ≡ length (header l.label) + length (records (r ∷ [])) + 1
+    length-piece = omega (arith, ap length is_piece.is, length-append (header l.label) (1 ∷ (body r ++ 0 ∷ [])), length-append (body r) (0 ∷ []), length-append (body r) [])
+
+    module _ (p : ℕ) (mid : List ℕ) (is : p ≡ half_at l.capacity (not first)) (torn : IsTorn p (length piece) f mid) (holds : Holds p piece mid) where
+      so : IsSettled l first rs mid
+      so = elsewhere p mid is torn
+
+      abbrev there : List ℕ
+      there = half l (not first) mid
+
+      begun : there ≡ header l.label ++ (records (r ∷ []) ++ 0 ∷ drop (length piece) there)
+      begun =
+          two_parts (length piece) there piece (holds_middle 0 piece there (holds_half (half_at l.capacity (not first)) 0 p piece mid (omega (arith, is)) holds) (omega (arith, length-piece)))
+          ∙ ap (λ (t : List ℕ). t ++ drop (length piece) there) is_piece.is
+          ∙ append_assoc (header l.label) (1 ∷ (body r ++ 0 ∷ [])) (drop (length piece) there)
+          ∙ ap (λ (t : List ℕ). header l.label ++ (1 ∷ t)) (append_assoc (body r) (0 ∷ []) (drop (length piece) there) ∙ sym (append_assoc (body r) [] (0 ∷ drop (length piece) there)))
+
+      rests : (c : List ℕ) → IsTorn 0 1 mid c → is_first c ≡ not first → IsResting l (not first) (r ∷ []) (length piece - 1) c
+      rests c turn selects = record {
+        fronted = turned_fronted l.capacity mid c turn so.fronted;
+        selects = selects;
+        fit = (is_piece.fits, tt);
+        size = omega (arith, length-piece);
+        rest = drop (length piece) there;
+        is = same_half l (not first) mid c turn (omega (arith, so.fronted.long)) ∙ begun;
+      }
+
+      pub either : (c : List ℕ) → IsTorn 0 1 mid c → IsEither l first rs r c
+      either c turn = ⊎_elim
+          (λ same. inl (turned l first rs mid c turn same so))
+          (λ other.
+          let resting = rests c turn other in
+          inr (record { fronted = resting.fronted; selects = other; has = inl (rests_half l (not first) (r ∷ []) (length piece - 1) c resting (omega (arith, room, length-piece))) }))
+          (two_values (is_first c) first)
+
+      pub switched : (v : ℕ) (c : List ℕ) → ((first ≡ true) × (v ≡ 0)) ⊎ ((first ≡ false) × (v ≡ 1)) → IsTorn 0 1 mid c → Holds 0 (v ∷ []) c → IsResting l (not first) (r ∷ []) (length piece - 1) c
+      switched v c chosen turn written = rests c turn (ap (λ (n : ℕ). eqb n 1) (written.each 0 (omega arith)) ∙ selected first v chosen)
 
 -- the final state alone, whatever the disk had besides its front
 module _ (l : Layout) (first : Bool) (r : Record) (piece f : List ℕ) (is_piece : IsPiece l r piece) (fronted : IsFronted l.capacity f)

@@ -1,7 +1,7 @@
 -- What a disk tells of all records.
-use Rattle.std.proofs.Common.{◌≡◌, inl, ⊎_elim, ℕ, ◌+◌, ◌<◌, ◌≤◌, Bool, not, cond, List, [], ◌∷◌, ◌++◌, length, take, Option, Some, ℤ, Result, Ok, Err, refl, sym, ◌∙◌, ap, subst, arith, append_assoc, length-append}
+use Rattle.std.proofs.Common.{◌≡◌, inl, ⊎_elim, ℕ, ◌+◌, ◌<◌, ◌≤◌, Bool, true, not, cond, List, [], ◌∷◌, ◌++◌, length, take, Option, Some, ℤ, Result, Ok, Err, refl, sym, ◌∙◌, ap, subst, arith, append_assoc, length-append}
 use Rattle.std.specs.Prelude.{OnOk, OnErr, IfOk, IfErr}
-use Rattle.std.proofs.lemmas.List.{take_at, take_all, append-nil}
+use Rattle.std.proofs.lemmas.List.{take_at, take_all, take-append-le, append-nil}
 use Rattle.teb_names.specs.declared.Cell.{Cell}
 use Rattle.teb_names.specs.Cells.{same_cell}
 use Rattle.teb_names.specs.Rows.{row_of}
@@ -69,7 +69,8 @@ stands_with l start past asked all rows c checkpoint split has = record {
   begun = tt;
 }
 
-pub tells_with : (l : Layout) (start : Values) (all some : List Record) (least k : ℕ) (c : List ℕ) → take k all ≡ some → least ≤ k → k ≤ length all → StandsOn l start (after_records some start) c → TellsOn l start all least c
+pub tells_with : (l : Layout) (start : Values) (all some : List Record) (least k : ℕ) (c : List ℕ) → take k all ≡ some → least ≤ k → k ≤ length all → StandsOn l start (after_records some start) c
+    → TellsOn l start all least c
 tells_with l start all some least k c is few many on = record {
   tells = record {
     k = k;
@@ -80,17 +81,45 @@ tells_with l start all some least k c is few many on = record {
   begun = on.begun;
 }
 
-pub one_of_tells : (l : Layout) (start : Values) (past asked all : List Record) (rows : List (Cell × ℤ)) (more : List Record) (least : ℕ) (first : Bool) (c : List ℕ) → ((x : Cell) → row_of rows x ≡ after_records past start x)
+-- the first of some records are the first of more records
+pub tells_more : (l : Layout) (start : Values) (all more : List Record) (least : ℕ) (file : List ℕ) → TellsOn l start all least file → TellsOn l start (all ++ more) least file
+tells_more l start all more least file on =
+    let t = on.tells in
+    record {
+      tells = record {
+        k = t.k;
+        no_fewer = t.no_fewer;
+        no_more = omega (arith, t.no_more, length-append all more);
+        stands = record { list = t.stands.list; has = t.stands.has; table = λ x. t.stands.table x ∙ ap (λ (rs : List Record). after_records rs start x) (sym (take-append-le t.k all more t.no_more)) };
+      };
+      begun = on.begun;
+    }
+
+-- a journal that is stopped keeps what it kept, also of more records
+pub keeps_stopped : {D : Type 0} (seen : D → List ℕ) (may_leave : D → List ℕ → Type 0) (start : Values) (all more : List Record) (least : ℕ) (old new : JournalState D) → new.stopped ≡ true
+    → new.disk ≡ old.disk → new.layout ≡ old.layout
+    → Keeps seen may_leave start all least old → Keeps seen may_leave start (all ++ more) least new
+keeps_stopped seen may_leave start all more least old new stopped disk layout keeps = record {
+  few = omega (arith, keeps.few, length-append all more);
+  each = λ c left. subst (λ (l : Layout). TellsOn l start (all ++ more) least c) (sym layout) (tells_more old.layout start all more least c (keeps.each c (subst (λ d. may_leave d c) disk left)));
+  running = λ runs. absurd (cc (stopped, runs));
+  all_safe = λ runs. absurd (cc (stopped, runs));
+}
+
+pub one_of_tells : (l : Layout) (start : Values) (past asked all : List Record) (rows : List (Cell × ℤ)) (more : List Record) (least : ℕ) (first : Bool) (c : List ℕ)
+    → ((x : Cell) → row_of rows x ≡ after_records past start x)
     → all ≡ past ++ asked → least ≤ length all → IsOneOf l first (checkpoint_of rows ∷ asked) more c → TellsOn l start (all ++ more) least c
 one_of_tells l start past asked all rows more least first c checkpoint split few one = ⊎_elim
     (λ whole. tells_with l start (all ++ more) all least (length all) c (take_at all more (length all) refl) few (omega (arith, length-append all more))
     (stands_with l start past asked all rows c checkpoint split (settled_has l first (checkpoint_of rows ∷ asked) c (record { fronted = one.fronted; selects = one.selects; has = inl whole }))))
-    (λ whole. tells_with l start (all ++ more) (all ++ more) least (length (all ++ more)) c (take_all (length (all ++ more)) (all ++ more) (omega arith)) (omega (arith, few, length-append all more)) (omega arith)
+    (λ whole. tells_with l start (all ++ more) (all ++ more) least (length (all ++ more)) c (take_all (length (all ++ more)) (all ++ more) (omega arith)) (omega (arith, few, length-append all more))
+    (omega arith)
     (stands_with l start past (asked ++ more) (all ++ more) rows c checkpoint (ap (λ (t : List Record). t ++ more) split ∙ append_assoc past asked more)
     (settled_has l first (checkpoint_of rows ∷ (asked ++ more)) c (record { fronted = one.fronted; selects = one.selects; has = inl whole }))))
     one.has
 
-pub either_tells : (l : Layout) (start : Values) (past asked all : List Record) (old new : List (Cell × ℤ)) (least : ℕ) (first : Bool) (c : List ℕ) → ((x : Cell) → row_of old x ≡ after_records past start x) → all ≡ past ++ asked
+pub either_tells : (l : Layout) (start : Values) (past asked all : List Record) (old new : List (Cell × ℤ)) (least : ℕ) (first : Bool) (c : List ℕ)
+    → ((x : Cell) → row_of old x ≡ after_records past start x) → all ≡ past ++ asked
     → ((x : Cell) → row_of new x ≡ after_records all start x) → least ≤ length all → IsEither l first (checkpoint_of old ∷ asked) (checkpoint_of new) c → TellsOn l start all least c
 either_tells l start past asked all old new least first c checkpoint split now few either = ⊎_elim
     (λ was. tells_with l start all all least (length all) c (take_all (length all) all (omega arith)) few (omega arith)
@@ -100,14 +129,16 @@ either_tells l start past asked all old new least first c checkpoint split now f
     either
 
 module _ {D : Type 0} (seen : D → List ℕ) (may_leave : D → List ℕ → Type 0) (start : Values) where
-  pub settled_of : (all : List Record) (j : JournalState D) → j.end < half_size j.layout.capacity → (running : IsRunning seen may_leave start all j) → IsSettled j.layout j.first (checkpoint_of running.rows ∷ running.asked) (seen j.disk)
+  pub settled_of : (all : List Record) (j : JournalState D) → j.end < half_size j.layout.capacity → (running : IsRunning seen may_leave start all j)
+      → IsSettled j.layout j.first (checkpoint_of running.rows ∷ running.asked) (seen j.disk)
   settled_of all j below running = record {
     fronted = running.resting.fronted;
     selects = running.resting.selects;
     has = inl (rests_half j.layout j.first (checkpoint_of running.rows ∷ running.asked) j.end (seen j.disk) running.resting below);
   }
 
-  pub runs : (all : List Record) (least : ℕ) (j : JournalState D) → j.end < half_size j.layout.capacity → least ≡ length all → IsRunning seen may_leave start all j → Keeps seen may_leave start all least j
+  pub runs : (all : List Record) (least : ℕ) (j : JournalState D) → j.end < half_size j.layout.capacity → least ≡ length all → IsRunning seen may_leave start all j
+      → Keeps seen may_leave start all least j
   runs all least j below is running = record {
     few = omega (arith, is);
     each = λ c left. subst (TellsOn j.layout start all least) (sym (running.durable c left))

@@ -23,7 +23,7 @@ use std::alloc::{AllocError, Global};
 use teb_io::Failed;
 
 impl<D: Disk> EpochJournal<D> {
-    /// Returns memory for a record whose body has so many bytes, or a group of that size, which `append` and `append_group` take. It makes no
+    /// Returns memory for a record whose body has `len` bytes, or a group of that size, which `append` and `append_group` take. It makes no
     /// call of the disk.
     ///
     /// # Errors
@@ -105,7 +105,7 @@ impl<D: Disk> EpochJournal<D> {
         self.append_bodies(memory, &group.bytes, group.len as u64)
     }
 
-    /// Adds so many records, of which these are the bodies with the marks behind them.
+    /// Adds `count` records. The bytes are their bodies, each followed by its mark.
     ///
     /// # Errors
     /// `Failed` if a call of the disk fails. The journal is then stopped, and all of the records may be on the disk, or none.
@@ -145,21 +145,35 @@ impl<D: Disk> EpochJournal<D> {
         added
     }
 
-    /// How many records of this epoch are acknowledged.
+    /// Returns the number of records of this epoch that are acknowledged.
     pub fn acknowledged(&self) -> u64
         ensures { result ≡ self.now.acknowledged }
     {
         self.place.acknowledged
     }
 
-    /// Whether a call of the disk has failed. No record may be added then.
+    /// Returns true if a call of the disk has failed. No record may be added then.
     pub fn is_stopped(&self) -> bool
         ensures { result ≡ self.now.stopped }
     {
         self.stopped
     }
 
-    /// How many bytes are left for records of this epoch, from the end mark on.
+    /// Stops the journal, as a call of its disk that fails does: no record may be added then. It makes no call of the disk.
+    pub fn stop(&mut self)
+        // Records that were to be added count among all records; a crash leaves none of them.
+        ensures not_added { (start : Values) (all more : List Record) (least : ℕ) → Keeps D.seen D.may_leave start all least self.old
+            → Keeps D.seen D.may_leave start (all ++ more) least self.new }
+        ensures stopped { self.new.stopped ≡ true }
+        ensures disk { self.new.disk ≡ self.old.disk }
+        ensures layout { self.new.layout ≡ self.old.layout }
+        ensures place { (self.new.first ≡ self.old.first) × (self.new.end ≡ self.old.end) }
+        ensures acknowledged { self.new.acknowledged ≡ self.old.acknowledged }
+    {
+        self.stopped = true;
+    }
+
+    /// Returns the number of bytes that are left for records of this epoch, from the end mark on.
     pub fn left(&self) -> u64
         ensures left { result + self.now.end ≡ half_size self.now.layout.capacity }
         ensures some { 0 < result }
@@ -167,14 +181,21 @@ impl<D: Disk> EpochJournal<D> {
         half_bytes(self.capacity) - self.place.end
     }
 
-    /// The disk.
+    /// Returns the label, which says whose rows the journal has.
+    pub fn label(&self) -> &[u8]
+        ensures { result.now ≡ self.now.layout.label }
+    {
+        &self.label
+    }
+
+    /// Returns the disk.
     pub fn disk(&self) -> &D
         ensures { result.now ≡ self.now.disk }
     {
         &self.disk
     }
 
-    /// The disk, as it is.
+    /// Returns the disk, as it is.
     pub fn into_disk(self) -> D
         ensures disk { result ≡ self.disk }
         ensures capacity { D.capacity result ≡ self.layout.capacity }

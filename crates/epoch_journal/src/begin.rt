@@ -59,10 +59,14 @@ impl<D: Disk> RecoveredDisk<D> {
         ensures errors { IfErr result (λ back. (back.why ≡ errors.DiskFault × Rose (D.faults self.disk) (D.faults back.disk))
             ⊎ ((back.disk ≡ self.disk) × ((back.why ≡ errors.OutOfMemory) ⊎ (back.why ≡ errors.Full × (half_size self.layout.capacity < 10 + length self.layout.label + 14 * length self.rows))))) }
         // The rows of a disk that has a checkpoint fit the other half.
-        ensures not_full { (start : Values) (all : List Record) (least k : ℕ) → (found : HasFound D.seen D.may_leave start all least k self) → IsBegun found.list → IfErr result (λ back. back.why ≡ errors.Full → ⊥) }
+        ensures not_full { (start : Values) (all : List Record) (least k : ℕ) → (found : HasFound D.seen D.may_leave start all least k self) → IsBegun found.list
+            → IfErr result (λ back. back.why ≡ errors.Full → ⊥) }
 
         ensures calls { IfOk result (λ o. IsUpTo 8 (24 + length self.layout.label + 14 * length self.rows) (D.tally self.disk) (D.tally o.0.disk)) }
         ensures calls_back { IfErr result (λ back. IsUpTo 8 (24 + length self.layout.label + 14 * length self.rows) (D.tally self.disk) (D.tally back.disk)) }
+        // However many rows there are, no more is written than fits a half, and the front.
+        ensures within { IfOk result (λ o. IsUpTo 8 (half_size self.layout.capacity + 14) (D.tally self.disk) (D.tally o.0.disk)) }
+        ensures within_back { IfErr result (λ back. IsUpTo 8 (half_size self.layout.capacity + 14) (D.tally self.disk) (D.tally back.disk)) }
     {
         let RecoveredDisk {
             mut disk,
@@ -112,6 +116,7 @@ fn begin_with<D: Disk>(
     ensures stays { D.capacity disk.new ≡ D.capacity disk.old }
     ensures cause { IsErrOf result errors.DiskFault → Rose (D.faults disk.old) (D.faults disk.new) }
     ensures calls { IsUpTo 8 (24 + length label.now + 14 * length rows.now) (D.tally disk.old) (D.tally disk.new) }
+    ensures within { IsUpTo 8 (half_size capacity + 14) (D.tally disk.old) (D.tally disk.new) }
 {
     let front = front_of(alloc, capacity)?;
     let piece = piece_of(alloc, capacity, label, rows)?;
@@ -134,14 +139,17 @@ fn replace<D: Disk>(
     ensures place { IfOk result (λ place. (place.end < half_size capacity) × (place.acknowledged ≡ 0)) }
     ensures resting { (label : List ℕ) (r : Record) → IsPiece (layout capacity label) r piece.now → IsCurrently capacity current (D.seen disk.old) → Only (D.seen disk.old) (D.may_leave disk.old)
         → IfOk result (λ place. IsResting (layout capacity label) place.first (r ∷ []) place.end (D.seen disk.new)) }
-    ensures switched { (label : List ℕ) (rs : List Record) (r : Record) → IsPiece (layout capacity label) r piece.now → IsAt (layout capacity label) rs current (D.seen disk.old) → Only (D.seen disk.old) (D.may_leave disk.old)
+    ensures switched { (label : List ℕ) (rs : List Record) (r : Record) → IsPiece (layout capacity label) r piece.now → IsAt (layout capacity label) rs current (D.seen disk.old)
+        → Only (D.seen disk.old) (D.may_leave disk.old)
         → IfOk result (λ place. IsResting (layout capacity label) place.first (r ∷ []) place.end (D.seen disk.new) × Only (D.seen disk.new) (D.may_leave disk.new)) }
-    ensures any_moment { (label : List ℕ) (rs : List Record) (r : Record) → IsPiece (layout capacity label) r piece.now → IsAt (layout capacity label) rs current (D.seen disk.old) → Only (D.seen disk.old) (D.may_leave disk.old)
+    ensures any_moment { (label : List ℕ) (rs : List Record) (r : Record) → IsPiece (layout capacity label) r piece.now → IsAt (layout capacity label) rs current (D.seen disk.old)
+        → Only (D.seen disk.old) (D.may_leave disk.old)
         → LeavesOnly D.moment D.left_since disk.old disk.new (HasOneOf (layout capacity label) rs (r ∷ [])) }
     ensures durable { OnOk result (Only (D.seen disk.new) (D.may_leave disk.new)) }
     ensures stays { D.capacity disk.new ≡ D.capacity disk.old }
     ensures cause { HasCause (D.faults disk.old) (D.faults disk.new) result }
     ensures calls { IsUpTo 8 (14 + length piece.now) (D.tally disk.old) (D.tally disk.new) }
+    ensures within { IsUpTo 8 (half_size capacity + 14) (D.tally disk.old) (D.tally disk.new) }
 {
     let first = settle(disk, capacity, current, front_bytes)?;
     switch_halves(disk, capacity, first, piece)?;
@@ -152,7 +160,7 @@ fn replace<D: Disk>(
     })
 }
 
-/// Whether the first half is current. A disk that ends before its halves gets its front, and the second half is current, which is empty.
+/// Returns true if the first half is current. A disk that ends before its halves gets its front, and the second half is current, which is empty.
 fn settle<D: Disk>(
     disk: &mut D,
     capacity: u64,

@@ -48,7 +48,8 @@ impl<D: Disk> EpochJournal<D> {
             → LeavesOnly D.moment D.left_since self.old.disk self.new.disk (TellsOn self.old.layout start all least) }
 
         ensures layout { self.new.layout ≡ self.old.layout }
-        ensures begun { OnOk result ((self.new.stopped ≡ false) × (self.new.first ≡ not self.old.first) × (self.new.end ≡ 9 + length self.old.layout.label + 14 * length rows.now) × (self.new.acknowledged ≡ 0)) }
+        ensures begun { OnOk result ((self.new.stopped ≡ false) × (self.new.first ≡ not self.old.first) × (self.new.end ≡ 9 + length self.old.layout.label + 14 * length rows.now)
+            × (self.new.acknowledged ≡ 0)) }
         ensures fits { OnOk result (10 + length self.old.layout.label + 14 * length rows.now ≤ half_size self.old.layout.capacity) }
         ensures full { IsErrOf result errors.Full → half_size self.old.layout.capacity < 10 + length self.old.layout.label + 14 * length rows.now }
         ensures unchanged { IfErr result (λ e. (e ≡ errors.DiskFault → ⊥) → self.new ≡ self.old) }
@@ -84,7 +85,7 @@ impl<D: Disk> EpochJournal<D> {
     }
 }
 
-/// Returns memory for so many bytes of the half that is not current, and for the byte that makes it current.
+/// Returns memory for `len` bytes of the half that is not current, and for the byte that makes it current.
 ///
 /// # Errors
 /// `AllocError`: out of memory.

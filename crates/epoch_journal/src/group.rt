@@ -36,7 +36,7 @@ impl Model for Group {
 }
 
 impl Group {
-    /// A group without records. It allocates nothing.
+    /// Returns a group without records. It allocates nothing.
     pub fn new(alloc: Global) -> Group
         ensures { result.records ≡ [] }
     {
@@ -46,7 +46,7 @@ impl Group {
         }
     }
 
-    /// Makes room for a record whose body has so many bytes.
+    /// Makes room for a record whose body has `len` bytes.
     ///
     /// # Errors
     /// `AllocError`: out of memory.
@@ -57,7 +57,7 @@ impl Group {
         self.bytes.reserve(len)
     }
 
-    /// Adds the record that the body spells, behind all others, in room that `reserve` has made.
+    /// Appends the record that the body spells, in room that `reserve` has made.
     pub fn push(&mut self, body: &[u8])
         requires body { (r : Record) × IsBody r body.now }
         requires room { length body.now ≤ self.old.spare }
@@ -80,21 +80,21 @@ impl Group {
         self.len = 0;
     }
 
-    /// The number of records.
+    /// Returns the number of records.
     pub fn len(&self) -> usize
         ensures { result ≡ length self.now.records }
     {
         self.len
     }
 
-    /// Whether there is no record.
+    /// Returns true if there is no record.
     pub fn is_empty(&self) -> bool
         ensures { IsTrue result ↔ (self.now.records ≡ []) }
     {
         self.len == 0
     }
 
-    /// The number of bytes that the records take, each with a mark.
+    /// Returns the number of bytes that the records take, each with a mark.
     pub fn size(&self) -> usize
         ensures { result ≡ group_size self.now }
     {
@@ -102,7 +102,7 @@ impl Group {
     }
 }
 
-/// Makes the end mark behind bodies a commit mark, if there are any.
+/// Makes the end mark after the bodies a commit mark, if there are any.
 fn open_end_mark(bytes: &mut Vec<u8>)
     ensures opened { bytes.new.items ≡ opened bytes.old.items }
     ensures capacity { vec_capacity bytes.new ≡ vec_capacity bytes.old }

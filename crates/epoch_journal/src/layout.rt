@@ -11,7 +11,7 @@ pub(crate) const COMMIT_MARK: u8 = 1;
 /// The first bytes of the front, "TEB1".
 pub(crate) const SIGNATURE: [u8; 4] = [84, 69, 66, 49];
 
-/// The place at which the halves begin, behind the byte that tells which one is current and the front.
+/// The place at which the halves begin, after the byte that tells which one is current and the front.
 pub(crate) const FRONT_END: u64 = 13;
 
 /// How many bytes a half has at most.
@@ -20,7 +20,7 @@ const MOST_HALF: u64 = 4_294_967_295;
 /// The number of bytes of a label's length.
 pub(crate) const LENGTH_BYTES: usize = 4;
 
-/// How many bytes each half of a disk has.
+/// Returns how many bytes each half of a disk has.
 #[tactic(auto, unfolding(crate::specs::Layout::half_size))]
 pub(crate) fn half_bytes(capacity: u64) -> u64
     ensures value { result ≡ half_size capacity }
@@ -30,7 +30,7 @@ pub(crate) fn half_bytes(capacity: u64) -> u64
     (capacity.saturating_sub(FRONT_END) / 2).min(MOST_HALF)
 }
 
-/// The place at which a half begins.
+/// Returns the place at which a half begins.
 pub(crate) fn base(capacity: u64, first: bool) -> u64
     ensures value { result ≡ half_at capacity first }
     ensures small { result < 2 ^ 33 }
@@ -42,7 +42,7 @@ pub(crate) fn base(capacity: u64, first: bool) -> u64
     }
 }
 
-/// The bytes from place 1 to the halves: the signature, and the capacity.
+/// Returns the bytes from place 1 to the halves: the signature, and the capacity.
 #[tactic(auto, unfolding(crate::specs::Layout::front))]
 pub(crate) fn front_of(alloc: Global, capacity: u64) -> Result<Vec<u8>, AllocError>
     ensures front { IfOk result (λ bytes. bytes.items ≡ front capacity) }
@@ -54,7 +54,7 @@ pub(crate) fn front_of(alloc: Global, capacity: u64) -> Result<Vec<u8>, AllocErr
     Ok(bytes)
 }
 
-/// The first bytes of a half: the length of the label, and the label.
+/// Returns the first bytes of a half: the length of the label, and the label.
 #[tactic(auto, unfolding(crate::specs::Layout::header))]
 pub(crate) fn header_of(alloc: Global, label: &[u8]) -> Result<Vec<u8>, AllocError>
     requires { length label.now < 2 ^ 32 }

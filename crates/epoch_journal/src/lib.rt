@@ -17,7 +17,8 @@
 //! - A *checkpoint* is a record of all rows. An *epoch* begins with one, and goes on with the records of its commits.
 //! - The *life* of a disk is all its epochs, one after the other.
 //! - The *label* says whose rows these are: `engine_store` writes the names of its tables into it.
-//! - A record is *acknowledged* once `append` has returned `Ok`. A journal is *stopped* once a call of its disk has failed.
+//! - A record is *acknowledged* once `append` has returned `Ok`. A journal is *stopped* once a call of its disk has failed, or
+//!   `stop` was called.
 //! - A [`Group`] is records that are added together. `append_group` makes no more calls of the disk for it than `append` for one record.
 //!
 //! | Call | Writes, each followed by a sync |
@@ -29,6 +30,7 @@
 //! | `append_group` | the bodies with commit marks between them and the next end mark; then as `append` |
 //! | `checkpoint` | header, checkpoint and end mark into the half that is not current; then byte 0 |
 //! | `renew` | none: it frees the memory that the past calls of the disk took |
+//! | `stop` | none: it stops the journal |
 //!
 //! **Crash model.** Until a sync succeeds, a crash may leave any bytes in the range of a write and in all that is past the
 //! old end of the disk. So no number in a header may tell which half is current: byte 0 alone tells it. When byte 0 is

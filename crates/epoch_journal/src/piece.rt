@@ -12,7 +12,7 @@ use record_journal::{CHANGE_BYTES, Change, FRAME_BYTES, encode};
 use std::alloc::{AllocError, Global};
 use teb_names::Cell;
 
-/// The bytes of a half that has a checkpoint of the rows alone.
+/// Returns the bytes of a half that has a checkpoint of the rows alone.
 ///
 /// # Errors
 /// `Full` if they are more than a half has; `OutOfMemory`.
@@ -38,7 +38,7 @@ pub(crate) fn piece_of(
     Ok(piece)
 }
 
-/// Whether the checkpoint of so many rows fits a half under a label of that length.
+/// Returns true if the checkpoint of `rows` rows fits a half under a label of that length.
 fn fits_half(capacity: u64, label: usize, rows: usize) -> bool
     requires { label < 2 ^ 32 }
     ensures fits { result ≡ true → 10 + label + 14 * rows ≤ half_size capacity }
@@ -50,7 +50,7 @@ fn fits_half(capacity: u64, label: usize, rows: usize) -> bool
     frame <= half && rows as u64 <= (half - frame) / CHANGE_BYTES as u64
 }
 
-/// The rows as changes, the last one first.
+/// Returns the rows as changes, the last one first.
 fn changes_of(alloc: Global, rows: &[(Cell, i64)]) -> Result<Vec<Change>, AllocError>
     ensures changes { IfOk result (λ changes. changes.items ≡ checkpoint_of rows.now) }
     ensures length { IfOk result (λ changes. length changes.items ≡ length rows.now) }
@@ -68,7 +68,7 @@ fn changes_of(alloc: Global, rows: &[(Cell, i64)]) -> Result<Vec<Change>, AllocE
     Ok(changes)
 }
 
-/// A half's header, a commit mark, and a body.
+/// Returns a half's header, a commit mark, and a body.
 fn labelled(alloc: Global, label: &[u8], body: &[u8]) -> Result<Vec<u8>, AllocError>
     requires { length label.now < 2 ^ 32 }
     ensures piece { IfOk result (λ piece. piece.items ≡ header label.now ++ (1 ∷ body.now)) }

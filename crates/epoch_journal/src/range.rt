@@ -10,7 +10,7 @@ use record_journal::RecoverError;
 use std::alloc::Global;
 use teb_io::Failed;
 
-/// The `count` bytes of a disk from `at` on, all of which are there. It writes nothing.
+/// Returns the `count` bytes of a disk from `at` on, all of which are there. It writes nothing.
 ///
 /// # Errors
 /// `DiskFault` if a call of the disk fails; `OutOfMemory`. Never `Damaged`.

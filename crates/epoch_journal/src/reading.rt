@@ -51,7 +51,7 @@ pub(crate) fn read_front<D: Disk>(
     Ok(Current::Half { first })
 }
 
-/// Whether the first half is current, by the first 13 bytes of a disk.
+/// Returns true if the first half is current, by the first 13 bytes of a disk.
 ///
 /// # Errors
 /// `Damaged` at 1 if there is no signature; `OtherCapacity`.
@@ -72,7 +72,7 @@ fn check_front(front: &[u8], capacity: u64) -> Result<bool, OpenError>
     Ok(front[0] == COMMIT_MARK)
 }
 
-/// The records of a disk of `len` bytes.
+/// Returns the records of a disk of `len` bytes.
 ///
 /// # Errors
 /// As `read_half`.
@@ -102,7 +102,7 @@ pub(crate) fn read_current<D: Disk>(
     }
 }
 
-/// The records of the current half of a disk of `len` bytes; none if the disk ends before that half.
+/// Returns the records of the current half of a disk of `len` bytes; none if the disk ends before that half.
 ///
 /// # Errors
 /// `OtherLabel` if the half does not begin with the label; `Damaged`; `DiskFault`; `OutOfMemory`.
@@ -141,7 +141,7 @@ fn read_half<D: Disk>(
     }
 }
 
-/// Whether the second half is current, and the disk ends before it.
+/// Returns true if the second half is current, and the disk ends before it.
 fn ends_before(first: bool, len: u64, half: u64) -> bool
     ensures yes { result ≡ true → (first ≡ false) × (len ≤ half) }
     ensures no { result ≡ false → (first ≡ true) ⊎ (half < len) }
@@ -149,7 +149,7 @@ fn ends_before(first: bool, len: u64, half: u64) -> bool
     !first && len <= half
 }
 
-/// The length of the header of a label, with which the `most` bytes from `half` on begin.
+/// Returns the length of the header of a label, with which the `most` bytes from `half` on begin.
 ///
 /// # Errors
 /// `OtherLabel` if they begin with anything else; `DiskFault`; `OutOfMemory`.
@@ -181,7 +181,7 @@ fn check_label<D: Disk>(
     Ok(size)
 }
 
-/// Whether two lists of bytes are the same.
+/// Returns true if two lists of bytes are the same.
 fn are_same(a: &[u8], b: &[u8]) -> bool
     ensures yes { result ≡ true → a.now ≡ b.now }
     ensures no { result ≡ false → a.now ≡ b.now → ⊥ }

@@ -14,7 +14,7 @@ use crash_disk::Disk;
 use record_journal::{CHANGE_BYTES, COUNT_BYTES, Change, RecoverError, read_record};
 use std::alloc::Global;
 
-/// The records from `at` on, up to the first mark that is not a commit mark, or up to `until`. It reads these records alone, each with
+/// Returns the records from `at` on, up to the first mark that is not a commit mark, or up to `until`. It reads these records alone, each with
 /// two reads or more, and writes nothing.
 ///
 /// # Errors
@@ -42,7 +42,7 @@ pub(crate) fn read_on<D: Disk>(
     Ok(records)
 }
 
-/// The record behind the mark at a place, if it is a commit mark.
+/// Returns the record after the mark at a place, if it is a commit mark.
 fn read_next<D: Disk>(
     alloc: Global,
     disk: &mut D,
@@ -80,7 +80,7 @@ fn read_next<D: Disk>(
     }
 }
 
-/// Whether bytes begin with a commit mark.
+/// Returns true if bytes begin with a commit mark.
 fn is_committed(front: &[u8]) -> bool
     ensures marked { result ≡ true → (0 < length front.now) × (slice_index front.now 0 ≡ 1) }
     ensures other { result ≡ false → (length front.now ≡ 0) ⊎ (slice_index front.now 0 ≢ 1) }
@@ -91,7 +91,7 @@ fn is_committed(front: &[u8]) -> bool
     front[0] == COMMIT_MARK
 }
 
-/// How many bytes follow the commit mark of a record of which these are the first five bytes.
+/// Returns how many bytes follow the commit mark of a record of which these are the first five bytes.
 fn body_size(front: &[u8]) -> u64
     requires { 5 ≤ length front.now }
     ensures value { result ≡ 4 + 14 * count_in front.now }

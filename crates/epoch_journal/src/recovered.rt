@@ -44,14 +44,14 @@ impl<D: Disk> Model for RecoveredDisk<D> {
 }
 
 impl<D: Disk> RecoveredDisk<D> {
-    /// The rows, in ascending order of their cells: those after all records that the disk has, or the starting rows if it has none.
+    /// Returns the rows, in ascending order of their cells: those after all records that the disk has, or the starting rows if it has none.
     pub fn rows(&self) -> &[(Cell, i64)]
         ensures { result.now ≡ self.now.rows }
     {
         &self.rows
     }
 
-    /// The place at which the half begins from which the rows were read; 0 if the disk ends before its halves.
+    /// Returns the place at which the half begins from which the rows were read; 0 if the disk ends before its halves.
     pub fn half_at(&self) -> u64
         ensures { result ≡ half_found_at self.now.layout.capacity self.now.current }
     {
@@ -61,7 +61,7 @@ impl<D: Disk> RecoveredDisk<D> {
         }
     }
 
-    /// The disk, as it is.
+    /// Returns the disk, as it is.
     pub fn into_disk(self) -> D
         ensures { result ≡ self.disk }
     {

@@ -133,7 +133,7 @@ fn read_disk<D: Disk>(
     Ok((current, rows))
 }
 
-/// Whether a label's header fits a half, with the frame of a record.
+/// Returns true if a label's header fits a half, with the frame of a record.
 fn fits_header(capacity: u64, label: &[u8]) -> bool
     ensures fits { result ≡ true → 10 + length label.now ≤ half_size capacity }
     ensures small { result ≡ true → length label.now < 2 ^ 32 }

@@ -1,4 +1,4 @@
-//! How a disk forgets the calls behind it.
+//! How a journal has its disk forget the past calls.
 
 ghost use Rattle.std.specs.Prelude.{◌≡◌, List, ℕ, IfOk, IfErr};
 ghost use Rattle.teb_rules.specs.Replay.{Values};
@@ -10,7 +10,7 @@ use crash_disk::Renew;
 use std::alloc::Global;
 
 impl<D: Renew> EpochJournal<D> {
-    /// The same journal on a renewed disk, which has freed the memory that its past calls took. It makes no call of the device, and is
+    /// Returns the same journal on a renewed disk, which has freed the memory that its past calls took. It makes no call of the device, and is
     /// meant to follow a checkpoint.
     ///
     /// # Errors

@@ -15,7 +15,7 @@ use crate::safely::write_safely;
 use crash_disk::Disk;
 use teb_io::Failed;
 
-/// Adds records behind the end mark at `end` of a half: their bodies with the marks behind them, and then the first commit mark, each
+/// Adds records after the end mark at `end` of a half: their bodies, each followed by its mark, and then the first commit mark, each
 /// made safe. It makes four calls of the disk, however many records there are.
 ///
 /// # Errors

@@ -10,7 +10,7 @@ use record_journal::{Change, rows_after};
 use std::alloc::{AllocError, Global};
 use teb_names::Cell;
 
-/// The rows after some records, of which the first is a checkpoint; the starting rows if there is none. They ascend.
+/// Returns the rows after some records, of which the first is a checkpoint; the starting rows if there is none. They ascend.
 pub(crate) fn table_after(
     alloc: Global,
     start: &[(Cell, i64)],

@@ -1,5 +1,5 @@
 -- What an answer makes of what a journal keeps.
-use Rattle.std.proofs.Common.{◌≡◌, ◌+◌, ℕ, List, Result, Ok, Err, refl, sym, ap, subst}
+use Rattle.std.proofs.Common.{◌≡◌, ◌+◌, ◌++◌, ℕ, List, Result, Ok, Err, refl, sym, ap, subst}
 use Rattle.std.specs.Prelude.{OnOk, OnErr, IsErrOf}
 use Rattle.teb_names.specs.declared.Reply.{Reply}
 use Rattle.teb_names.specs.declared.Reply.TheVariants.{Begun, Value, Values, Done, Prepared, Committed, Again, Aborted, Refused}
@@ -12,6 +12,7 @@ use Rattle.crash_disk.specs.Disk.{LeavesOnly}
 use Rattle.record_journal.proofs.Moments.{started}
 use Rattle.epoch_journal.specs.Telling.{TellsOn}
 use Rattle.epoch_journal.specs.Kept.{Keeps}
+use Rattle.epoch_journal.proofs.Telling.{tells_more}
 use Rattle.epoch_store.specs.Told.{acknowledged_after, as_ask}
 use Rattle.epoch_store.specs.declared.error.AskError.{AskError}
 use Rattle.epoch_store.specs.declared.error.AskError.TheVariants as asking
@@ -52,7 +53,8 @@ get_err {T} {E} {P} r e is p = let Q : Result T E → Type 0 = λ x. OnErr x P i
 
 module _ {D : Type 0} (seen : D → List ℕ) (may_leave : D → List ℕ → Type 0) where
   -- the same records, over the same rows
-  pub keeps_same : (X Z : Store) (rs qs : List Record) (n m : ℕ) (j : JournalState D) → Z ≡ X → qs ≡ rs → m ≡ n → Keeps seen may_leave (row_of X.rows) rs n j → Keeps seen may_leave (row_of Z.rows) qs m j
+  pub keeps_same : (X Z : Store) (rs qs : List Record) (n m : ℕ) (j : JournalState D) → Z ≡ X → qs ≡ rs → m ≡ n → Keeps seen may_leave (row_of X.rows) rs n j
+      → Keeps seen may_leave (row_of Z.rows) qs m j
   keeps_same X Z rs qs n m j store same count keeps =
       subst (λ (x : Store × List Record × ℕ). Keeps seen may_leave (row_of x.0.rows) x.1 x.2 j) (λ i. (sym store i, sym same i, sym count i)) keeps
 
@@ -61,3 +63,10 @@ module _ {D : Type 0} (seen : D → List ℕ) (may_leave : D → List ℕ → Ty
   pub still : (start : Table) (rs : List Record) (n : ℕ) (j : JournalState D) → ((c : List ℕ) → left_since j.disk (moment j.disk) c → may_leave j.disk c) → Keeps seen may_leave start rs n j
       → LeavesOnly moment left_since j.disk j.disk (TellsOn j.layout start rs n)
   still start rs n j only_now keeps = started moment left_since j.disk (TellsOn j.layout start rs n) (λ c left. keeps.each c (only_now c left))
+
+  -- nor are records added
+  pub still_more : (start : Table) (all more : List Record) (n : ℕ) (j : JournalState D) → ((c : List ℕ) → left_since j.disk (moment j.disk) c → may_leave j.disk c)
+      → Keeps seen may_leave start all n j
+      → LeavesOnly moment left_since j.disk j.disk (TellsOn j.layout start (all ++ more) n)
+  still_more start all more n j only_now keeps = started moment left_since j.disk (TellsOn j.layout start (all ++ more) n)
+      (λ c left. tells_more j.layout start all more n c (keeps.each c (only_now c left)))

@@ -25,7 +25,8 @@ IsReserved spare_with waiting None j = waiting ≡ []
 IsReserved spare_with waiting (Some memory) j = (0 < length waiting) × IsForRecord spare_with (size_of waiting) memory j
 
 -- The journal has the first of these records, all of them acknowledged. The others wait; there is room and memory for them.
-pub record Gathers {D : Type 0} (seen : D → List ℕ) (may_leave : D → List ℕ → Type 0) (spare_with : D → Memory → Spare) (start : Values) (all waiting : List Record) (memory : Option Memory) (j : JournalState D) : Type 0 where
+pub record Gathers {D : Type 0} (seen : D → List ℕ) (may_leave : D → List ℕ → Type 0) (spare_with : D → Memory → Spare) (start : Values) (all waiting : List Record) (memory : Option Memory)
+    (j : JournalState D) : Type 0 where
   pub kept : List Record
   pub split : all ≡ kept ++ waiting
   pub keeps : Keeps seen may_leave start kept j.acknowledged j

@@ -35,6 +35,20 @@ impl From<PrepareError> for AskError {
     }
 }
 
+/// Why the records of a group were not written.
+#[derive(Clone, Copy, Debug, PartialEq, Eq, Error)]
+pub enum WriteError {
+    /// The rest of this epoch's part of the disk does not hold the records. Nothing changed.
+    #[error("the disk is full")]
+    Full,
+    /// A call of the disk failed. The disk may keep all of the records, or none, and the journal is stopped.
+    #[error("the disk failed")]
+    DiskFault,
+    /// Out of memory. Nothing changed.
+    #[error("out of memory")]
+    OutOfMemory,
+}
+
 /// Why the next epoch has not begun, with the engine that it was to begin with.
 #[derive(Debug, Drop)]
 pub struct NotBegun<E> {

@@ -49,7 +49,7 @@ impl<E: Recorder, D: Disk> Model for GroupCommit<E, D> {
 }
 
 impl<E: Recorder, D: Disk> EpochStore<E, D> {
-    /// The same store, whose next commits wait for the disk together.
+    /// Returns the same store, whose next commits wait for the disk together.
     pub fn begin_group(self, alloc: Global) -> GroupCommit<E, D>
         requires running { self.journal.stopped ≡ false }
         ensures { (result.engine ≡ self.engine) × (result.journal ≡ self.journal) × (result.waiting ≡ []) }
@@ -81,7 +81,7 @@ impl<E: Recorder, D: Disk> GroupCommit<E, D> {
         ensures store { E.store self.new.engine ≡ E.store self.old.engine }
         ensures names { E.names self.new.engine ≡ E.names self.old.engine }
 
-        // The record of a commit waits, behind those that wait already.
+        // The record of a commit waits, after those that wait already.
         ensures waits { IfOk result (λ reply. reply ≡ replies.Committed
             → (r : Record) × (E.records self.new.engine ≡ E.records self.old.engine ++ r ∷ []) × (self.new.waiting ≡ self.old.waiting ++ r ∷ [])) }
         ensures others { IfOk result (λ reply. (reply ≡ replies.Committed → ⊥) → (E.records self.new.engine ≡ E.records self.old.engine) × (self.new.waiting ≡ self.old.waiting)) }
@@ -161,7 +161,7 @@ impl<E: Recorder, D: Disk> GroupCommit<E, D> {
         (EpochStore { engine, journal }, written)
     }
 
-    /// The number of commits that wait. They are the last ones of the epoch, and all before them are acknowledged.
+    /// Returns the number of commits that wait. They are the last ones of the epoch, and all before them are acknowledged.
     pub fn waiting(&self) -> usize
         ensures count { result ≡ length self.now.waiting }
         ensures others { self.now.journal.acknowledged + length self.now.waiting ≡ length (E.records self.now.engine) }
@@ -169,14 +169,14 @@ impl<E: Recorder, D: Disk> GroupCommit<E, D> {
         self.group.len()
     }
 
-    /// The number of bytes that are left for the commits of this epoch, beside those that wait.
+    /// Returns the number of bytes that are left for the commits of this epoch, beside those that wait.
     pub fn left(&self) -> u64
         ensures { result + (self.now.journal.end + size_of self.now.waiting) ≡ half_size self.now.journal.layout.capacity }
     {
         self.journal.left() - self.group.size() as u64
     }
 
-    /// The engine of the present epoch.
+    /// Returns the engine of the present epoch.
     pub fn engine(&self) -> &E
         ensures engine { result.now ≡ self.now.engine }
         ensures images { (image : List ℕ) → D.may_leave self.now.journal.disk image

@@ -29,12 +29,24 @@
 //!        all commits are acknowledged ◄── sync: write all records, sync, write the first commit mark, sync
 //! ```
 //!
+//! - A store may be *split* into its halves: a [`CommitQueue`], the engine with the records of its commits that wait, and the journal.
+//!   One thread then answers without a call of the disk, while another one writes.
+//!
+//! ```text
+//!   split ──► CommitQueue::ask: the engine's answer; a commit waits ──► ask ──► .. ──► take: all records that wait
+//!     │                                                                                          │
+//!     ▼                                                                                          ▼
+//!   EpochJournal ─────────────────────────► write_group: write all records, sync, write the first commit mark, sync
+//! ```
+//!
 //! **What is proved.** The reply and the events of `ask` are those of `answer` (clauses `reply`, `events`). A crash at any moment
 //! of `ask`, or after it, leaves the rows after the first k commits of the epoch, and k is at least the number of acknowledged
 //! commits (`any_moment`, `images`). Every error but `Unsure` leaves the store as it was (`not_asked`). A crash at any moment of
 //! `next_epoch` leaves the rows after all commits of the epoch that ends. `GroupCommit::ask` makes no call of the disk, and
 //! `GroupCommit::sync` four, however many commits wait; a crash at any moment of them leaves the first commits too, at least those
-//! that were acknowledged before.
+//! that were acknowledged before. `CommitQueue::ask` lets the record of each commit wait after the others (`waits`), and `take`
+//! returns those that waited. Whatever records a journal keeps, `write_group` says that it keeps the group after them (`kept`,
+//! `not_kept`, `any_moment`). So neither half needs the history of the other.
 //!
 //! **Not claimed**: anything of serial orders, or of epochs that are past: that is `engine_store`. No epoch ends by itself, and no
 //! group: who answers the commits of a group to its clients before `sync` has returned `Ok` may tell them of commits that a crash loses.
@@ -42,11 +54,15 @@
 
 mod error;
 mod group_commit;
+mod queue;
 mod recorder;
 mod renew;
 mod store;
+mod write;
 
-pub use error::{AskError, NotBegun};
+pub use error::{AskError, NotBegun, WriteError};
 pub use group_commit::GroupCommit;
+pub use queue::CommitQueue;
 pub use recorder::{PrepareError, Recorder};
 pub use store::EpochStore;
+pub use write::write_group;

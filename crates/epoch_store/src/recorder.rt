@@ -42,7 +42,7 @@ pub trait Recorder {
     /// The bytes are the body of the record that the request would commit, if it commits.
     ghost prepared: { Self → TheSession → TheRequest → List ℕ → Type 0 };
 
-    /// The request may commit a record that so many bytes do not hold.
+    /// The request may commit a record that does not fit this number of bytes.
     ghost lacks: { Self → ℕ → TheSession → TheRequest → Type 0 };
 
     /// Returns the body of the record that a request would commit, which with the gate of the record takes no more than `left` bytes.
@@ -86,11 +86,11 @@ pub trait Recorder {
         ensures commits { (bytes : List ℕ) → result ≡ replies.Committed → prepared self.old session request bytes
             → (r : Record) × IsBody r bytes × (records self.new ≡ records self.old ++ r ∷ []) };
 
-    /// The rows that the store began with.
+    /// Returns the rows that the store began with.
     fn rows(&self) -> &[(Cell, i64)]
         ensures { result.now ≡ (store self.now).rows };
 
-    /// What has happened so far.
+    /// Returns what has happened so far.
     fn history(&self) -> &History
         ensures events { result.now.events ≡ events self.now }
         ensures lawful { Lawful (store self.now).setup (events self.now) };

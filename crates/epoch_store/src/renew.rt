@@ -10,7 +10,7 @@ use crash_disk::Renew;
 use std::alloc::Global;
 
 impl<E: Recorder, D: Renew> EpochStore<E, D> {
-    /// The same store on a renewed disk, which has freed the memory that its past calls took. It makes no call of the device, and is
+    /// Returns the same store on a renewed disk, which has freed the memory that its past calls took. It makes no call of the device, and is
     /// meant to follow `next_epoch`.
     ///
     /// # Errors

@@ -52,7 +52,7 @@ impl<E: Recorder, D: Disk> Model for EpochStore<E, D> {
 }
 
 impl<E: Recorder, D: Disk> EpochStore<E, D> {
-    /// The store of an engine that has committed nothing yet, over a journal whose epoch has just begun with the engine's rows.
+    /// Returns the store of an engine that has committed nothing yet, over a journal whose epoch has just begun with the engine's rows.
     pub fn new(engine: E, journal: EpochJournal<D>) -> EpochStore<E, D>
         requires none { E.records engine ≡ [] }
         requires begun { Keeps D.seen D.may_leave (row_of (E.store engine).rows) [] journal.acknowledged journal }
@@ -133,7 +133,7 @@ impl<E: Recorder, D: Disk> EpochStore<E, D> {
         self.journal.is_stopped()
     }
 
-    /// The number of commits of this epoch that were answered: all of them, as long as the disk has not failed.
+    /// Returns the number of commits of this epoch that were answered: all of them, as long as the disk has not failed.
     pub fn acknowledged(&self) -> u64
         ensures count { result ≡ self.now.journal.acknowledged }
         ensures all { self.now.journal.stopped ≡ false → self.now.journal.acknowledged ≡ length (E.records self.now.engine) }
@@ -141,7 +141,7 @@ impl<E: Recorder, D: Disk> EpochStore<E, D> {
         self.journal.acknowledged()
     }
 
-    /// The engine of the present epoch.
+    /// Returns the engine of the present epoch.
     pub fn engine(&self) -> &E
         ensures engine { result.now ≡ self.now.engine }
         ensures images { (image : List ℕ) → D.may_leave self.now.journal.disk image
@@ -150,21 +150,21 @@ impl<E: Recorder, D: Disk> EpochStore<E, D> {
         &self.engine
     }
 
-    /// The number of bytes that are left for the commits of this epoch.
+    /// Returns the number of bytes that are left for the commits of this epoch.
     pub fn left(&self) -> u64
         ensures { result + self.now.journal.end ≡ half_size self.now.journal.layout.capacity }
     {
         self.journal.left()
     }
 
-    /// The disk.
+    /// Returns the disk.
     pub fn disk(&self) -> &D
         ensures { result.now ≡ self.now.journal.disk }
     {
         self.journal.disk()
     }
 
-    /// The engine and the journal.
+    /// Returns the engine and the journal.
     pub fn into_parts(self) -> (E, EpochJournal<D>)
         ensures parts { (result.0 ≡ self.engine) × (result.1 ≡ self.journal) }
         ensures images { (image : List ℕ) → D.may_leave self.journal.disk image
@@ -209,7 +209,7 @@ impl<E: Recorder, D: Disk> EpochStore<E, D> {
 }
 
 /// Writes the checkpoint of the rows that an engine begins with.
-fn begin_with<E: Recorder, D: Disk>(
+pub(crate) fn begin_with<E: Recorder, D: Disk>(
     alloc: Global,
     journal: &mut EpochJournal<D>,
     next: &E,
@@ -268,7 +268,7 @@ fn prepared<E: Recorder, D: Disk>(
     Ok((body, memory))
 }
 
-/// Returns the body of the record that a request would commit, and memory to write it behind `waiting` bytes more.
+/// Returns the body of the record that a request would commit, and memory to write it after `waiting` more bytes.
 ///
 /// # Errors
 /// `Full` if the record may need more than `left` bytes; `OutOfMemory`.

@@ -1,16 +1,16 @@
 -- What a turn adds to the list.
-use Rattle.std.proofs.Common.{◌≡◌, ◌≢◌, Result, Ok, Err, ℕ, suc, List, [], ◌∷◌, ◌++◌, All, append-nil, append_assoc, refl, sym, ◌∙◌, ap, arith}
+use Rattle.std.proofs.Common.{◌≡◌, ◌≢◌, Result, Ok, Err, ℕ, suc, List, [], ◌∷◌, ◌++◌, All, append-nil, append_assoc, refl, sym, ◌∙◌, ap, subst, arith}
 use Rattle.teb_names.specs.declared.Reply.{Reply as TheReply}
-use Rattle.teb_names.specs.declared.Reply.TheVariants.{Committed}
 use Rattle.teb_names.specs.declared.Request.{Request}
 use Rattle.teb_names.specs.declared.Session.{Session}
 use Rattle.turn_lock.proofs.Lists.{All_map, All_none, All_cons}
 use Rattle.shared_store.specs.declared.entry.LifeEntry.{LifeEntry}
-use Rattle.shared_store.specs.declared.entry.LifeEntry.TheVariants.{Asked}
-use Rattle.shared_store.specs.declared.entry.LifeEntry.TheVariants as entries
-use Rattle.shared_store.specs.declared.error.Failure.{Failure}
-use Rattle.shared_store.specs.declared.error.Failure.TheVariants.{Unasked, Unsure}
-use Rattle.shared_store.specs.declared.reply.StoreReply.{StoreReply}
+use Rattle.shared_store.specs.declared.entry.LifeEntry.TheVariants.{Asked, Taken}
+use Rattle.shared_store.specs.declared.entry.TheConstants.{LOG_SEAT}
+use Rattle.shared_store.specs.Ending.{AddsNoCalls}
+use Rattle.shared_store.specs.declared.error.Fault.{Fault}
+use Rattle.shared_store.specs.declared.answer.Answer.{Answer}
+use Rattle.shared_store.specs.declared.answer.Answer.TheVariants as answer
 use Rattle.shared_store.specs.declared.reply.StoreReply.TheVariants.{Reply, Later, Ended}
 use Rattle.shared_store.specs.Stages.{Stage}
 use Rattle.shared_store.specs.Lives.{IsMarkOf, owner_of}
@@ -34,41 +34,60 @@ adds_more n old mid new p q = record {
   mine = all_append (IsMarkOf n) p.marks q.marks p.mine q.mine;
 }
 
-unsure_mark : (by : Session) → All (IsMarkOf by.0) (entries.Unsure by ∷ [])
-unsure_mark by = All_cons (IsMarkOf by.0) (entries.Unsure by) [] (refl, refl) (All_none (IsMarkOf by.0))
-
 -- what is asked for another adds marks
-pub adds_for_other : (first : Stage) (by s : Session) (q : Request) (r : Result TheReply Failure) (old new : List LifeEntry) → s.0 ≢ by.0 → AddsResult first by s q r old new → AddsMarks by.0 old new
+pub adds_for_other : (first : Stage) (by s : Session) (q : Request) (o : Result TheReply Fault) (old new : List LifeEntry) → s.0 ≢ by.0 → AddsResult first by s q o old new → AddsMarks by.0 old new
 adds_for_other first by s q (Ok r) old new o a = adds_one by.0 (Asked by s q a.short) old new (for_other by s q a.short o) a.is
-adds_for_other first by s q (Err Unsure) old new o a = record { marks = Asked by s q a.short ∷ entries.Unsure by ∷ []; is = a.is; mine = All_cons (IsMarkOf by.0) (Asked by s q a.short) (entries.Unsure by ∷ []) (for_other by s q a.short o) (unsure_mark by) }
-adds_for_other first by s q (Err (Unasked f)) old new o a = adds_nothing by.0 old new a
+adds_for_other first by s q (Err f) old new o a = adds_nothing by.0 old new a
 
-module _ (first : Stage) (s : Session) (q : Request) (old mid new : List LifeEntry) (m : AddsMarks s.0 old mid) where
-  adds_call : (r : TheReply) (after : List LifeEntry) → All (IsMarkOf s.0) after → AddsAsked first s s q r after mid new → AddsCall first s q r old new
-  adds_call r after marks a = record { before = mid; after = after; short = a.short; stage = a.stage; goes_on = m; is = a.is; marks = marks; leads = a.leads; reply = a.reply; short_of = a.short_of }
+module _ (first : Stage) (s : Session) (q : Request) (old mid new : List LifeEntry) (m : AddsMarks s.0 old mid) (o : Result TheReply Fault) (a : AddsResult first s s q o mid new) where
+  adds_call : (r : TheReply) → AddsAsked first s s q r mid new → AddsCall first s q r old new
+  adds_call r a = record { before = mid; short = a.short; stage = a.stage; goes_on = m; is = a.is; leads = a.leads; reply = a.reply; short_of = a.short_of }
 
   -- what the session itself asks adds a call
-  pub adds_ok : (r : TheReply) → AddsResult first s s q (Ok r) mid new → Adds first s q (Ok (Reply r)) old new
-  adds_ok r a = adds_call r [] (All_none (IsMarkOf s.0)) a
+  pub adds_ok : (r : TheReply) (n : ℕ) → o ≡ Ok r → Adds first s q (answer.Reply (Reply r) n) old new
+  adds_ok r n e = adds_call r (subst (λ (p : Result TheReply Fault). AddsResult first s s q p mid new) e a)
 
-  pub adds_err : (f : Failure) → AddsResult first s s q (Err f) mid new → Adds first s q (Err f) old new
-  adds_err Unsure a = adds_call Committed (entries.Unsure s ∷ []) (unsure_mark s) a
-  adds_err (Unasked f) a = adds_more s.0 old mid new m (adds_nothing s.0 mid new a)
+  pub adds_err : (f : Fault) → o ≡ Err f → AddsMarks s.0 old new
+  adds_err f e = adds_more s.0 old mid new m (adds_nothing s.0 mid new (subst (λ (p : Result TheReply Fault). AddsResult first s s q p mid new) e a))
 
 pub marks_grow : (n : ℕ) (old new : List LifeEntry) → AddsMarks n old new → GrowsBy n old new
 marks_grow n old new m = record { more = m.marks; is = m.is; mine = All_map (IsMarkOf n) (λ (e : LifeEntry). owner_of e ≡ n) m.marks (λ e p. p.0) m.mine }
 
 call_grows : (first : Stage) (s : Session) (q : Request) (r : TheReply) (old new : List LifeEntry) → AddsCall first s q r old new → GrowsBy s.0 old new
 call_grows first s q r old new a = let P : LifeEntry → Type 0 = λ (e : LifeEntry). owner_of e ≡ s.0 in let call : LifeEntry = Asked s s q a.short in record {
-  more = a.goes_on.marks ++ call ∷ a.after;
-  is = a.is ∙ (ap (λ (l : List LifeEntry). l ++ call ∷ a.after) a.goes_on.is ∙ append_assoc old a.goes_on.marks (call ∷ a.after));
-  mine = all_append P a.goes_on.marks (call ∷ a.after) (All_map (IsMarkOf s.0) P a.goes_on.marks (λ e p. p.0) a.goes_on.mine) (All_cons P call a.after refl (All_map (IsMarkOf s.0) P a.after (λ e p. p.0) a.marks));
+  more = a.goes_on.marks ++ call ∷ [];
+  is = a.is ∙ (ap (λ (l : List LifeEntry). l ++ call ∷ []) a.goes_on.is ∙ append_assoc old a.goes_on.marks (call ∷ []));
+  mine = all_append P a.goes_on.marks (call ∷ []) (All_map (IsMarkOf s.0) P a.goes_on.marks (λ e p. p.0) a.goes_on.mine) (All_cons P call [] refl (All_none P));
 }
 
 -- all that is added is of the session
-pub adds_grow : (first : Stage) (s : Session) (q : Request) (r : Result StoreReply Failure) (old new : List LifeEntry) → Adds first s q r old new → GrowsBy s.0 old new
-adds_grow first s q (Ok (Reply r)) old new a = call_grows first s q r old new a
-adds_grow first s q (Ok Later) old new a = marks_grow s.0 old new a
-adds_grow first s q (Ok (Ended r)) old new a = marks_grow s.0 old new a
-adds_grow first s q (Err Unsure) old new a = call_grows first s q Committed old new a
-adds_grow first s q (Err (Unasked f)) old new a = marks_grow s.0 old new a
+pub adds_grow : (first : Stage) (s : Session) (q : Request) (r : Answer) (old new : List LifeEntry) → Adds first s q r old new → GrowsBy s.0 old new
+adds_grow first s q (answer.Reply (Reply r) n) old new a = call_grows first s q r old new a
+adds_grow first s q (answer.Reply Later n) old new a = marks_grow s.0 old new a
+adds_grow first s q (answer.Reply (Ended r) n) old new a = marks_grow s.0 old new a
+adds_grow first s q answer.Ending old new a = marks_grow s.0 old new a
+adds_grow first s q (answer.Unasked f) old new a = marks_grow s.0 old new a
+
+pub grows_on : (n : ℕ) (old mid new : List LifeEntry) → GrowsBy n old mid → GrowsBy n mid new → GrowsBy n old new
+grows_on n old mid new p q = record {
+  more = p.more ++ q.more;
+  is = q.is ∙ (ap (λ (l : List LifeEntry). l ++ q.more) p.is ∙ append_assoc old p.more q.more);
+  mine = all_append (λ (e : LifeEntry). owner_of e ≡ n) p.more q.more p.mine q.mine;
+}
+
+pub grows_one : (n : ℕ) (e : LifeEntry) (old new : List LifeEntry) → owner_of e ≡ n → new ≡ old ++ e ∷ [] → GrowsBy n old new
+grows_one n e old new o is = record { more = e ∷ []; is = is; mine = All_cons (λ (e : LifeEntry). owner_of e ≡ n) e [] o (All_none (λ (e : LifeEntry). owner_of e ≡ n)) }
+
+pub grows_none : (n : ℕ) (old : List LifeEntry) → GrowsBy n old old
+grows_none n old = record { more = []; is = sym (append-nil old); mine = All_none (λ (e : LifeEntry). owner_of e ≡ n) }
+
+pub no_calls : (old : List LifeEntry) → AddsNoCalls old old
+no_calls old = record { more = []; is = sym (append-nil old); calls = λ n. refl; owned = All_none (λ (e : LifeEntry). owner_of e ≡ LOG_SEAT) }
+
+pub no_calls_taken : (old new : List LifeEntry) → new ≡ old ++ Taken ∷ [] → AddsNoCalls old new
+no_calls_taken old new is = record {
+  more = Taken ∷ [];
+  is = is;
+  calls = λ n. refl;
+  owned = All_cons (λ (e : LifeEntry). owner_of e ≡ LOG_SEAT) Taken [] refl (All_none (λ (e : LifeEntry). owner_of e ≡ LOG_SEAT));
+}

@@ -7,7 +7,7 @@ use Rattle.short_reply.specs.declared.ShortReply.{ShortReply}
 use Rattle.turn_lock.specs.Counts.{times, same}
 use Rattle.turn_lock.proofs.Lists.{All_map}
 use Rattle.shared_store.specs.declared.entry.LifeEntry.{LifeEntry}
-use Rattle.shared_store.specs.declared.entry.LifeEntry.TheVariants.{Asked, Turned, Unsure}
+use Rattle.shared_store.specs.declared.entry.LifeEntry.TheVariants.{Asked, Taken, Turned, Stopped}
 use Rattle.shared_store.specs.Lives.{IsMarkOf, calls_of, is_call_of, owner_of}
 
 pub calls_append : (n : ℕ) (xs ys : List LifeEntry) → calls_of n (xs ++ ys) ≡ calls_of n xs ++ calls_of n ys
@@ -26,8 +26,9 @@ is_other n o z is = let one : same o n ≡ 1 = ap (λ b. if b then 1 else 0) (eq
 
 no_call : (n : ℕ) (e : LifeEntry) → owner_of e ≢ n → is_call_of n e ≡ false
 no_call n (Asked by s q r) o = ap (λ (b : Bool). b && (s.0 == n)) (ne_eqb by.0 n o)
-no_call n (Turned by) o = refl
-no_call n (Unsure by) o = refl
+no_call n Taken o = refl
+no_call n Turned o = refl
+no_call n Stopped o = refl
 
 all_others : (n : ℕ) (es : List LifeEntry) → All (λ (e : LifeEntry). times (owner_of e) (n ∷ []) ≡ 0) es → All (λ (e : LifeEntry). is_call_of n e ≡ false) es
 all_others n es a = All_map (λ (e : LifeEntry). times (owner_of e) (n ∷ []) ≡ 0) (λ (e : LifeEntry). is_call_of n e ≡ false) es (λ e z. no_call n e (is_other n (owner_of e) z)) a
@@ -50,7 +51,6 @@ and_no false = refl
 pub for_other : (by s : Session) (q : Request) (r : Option ShortReply) → s.0 ≢ by.0 → IsMarkOf by.0 (Asked by s q r)
 for_other by s q r o = (refl, ap (λ (b : Bool). (by.0 == by.0) && b) (ne_eqb s.0 by.0 o) ∙ and_no (by.0 == by.0))
 
--- of a call and what follows it, marks, the call alone
-pub one_call : (s : Session) (q : Request) (r : Option ShortReply) (after : List LifeEntry) → All (IsMarkOf s.0) after → calls_of s.0 (Asked s s q r ∷ after) ≡ Asked s s q r ∷ []
-one_call s q r after a = let e : LifeEntry = Asked s s q r in
-    ap (λ b. cond b (e ∷ calls_of s.0 after) (calls_of s.0 after)) (own_call s q r) ∙ ap (λ (l : List LifeEntry). e ∷ l) (marks_none s.0 after a)
+-- a call alone
+pub one_call : (s : Session) (q : Request) (r : Option ShortReply) → calls_of s.0 (Asked s s q r ∷ []) ≡ Asked s s q r ∷ []
+one_call s q r = let e : LifeEntry = Asked s s q r in ap (λ b. cond b (e ∷ []) []) (own_call s q r)

@@ -1,9 +1,15 @@
+pub mod Counting
+pub mod Alone
+pub mod Courses
 pub mod Calls
 pub mod Living
 pub mod Adding
+pub mod Results
+pub mod Keeping
 pub mod Turning
-pub mod Passing
-pub mod Asking
+pub mod Gains
+pub mod Answered
 pub mod Dealing
 pub mod Gathering
+pub mod Settling
 pub mod Numbers

@@ -1,24 +1,24 @@
--- What a request, and the end of an epoch, make of a life.
-use Rattle.std.proofs.Common.{◌≡◌, Result, Ok, Err, ℕ, zero, suc, ◌+◌, ◌<◌, ◌≤◌, Bool, true, false, true≢false, List, [], ◌∷◌, ◌++◌, Option, append_assoc, refl, sym, ◌∙◌, ap, subst, arith}
-use mathlib.Core.Logic.{∥∥₁_map}
+-- What a request, a taking and a failure of the log make of a life.
+use Rattle.std.proofs.Common.{◌≡◌, Result, Ok, Err, ℕ, ◌+◌, ◌≤◌, Bool, true, false, List, [], ◌∷◌, ◌++◌, Option, refl, sym, ◌∙◌, ap, subst, arith}
+use mathlib.Core.Logic.{∥∥₁_map, ∥∥₁_map₂}
 use Rattle.teb_names.specs.declared.Reply.{Reply}
-use Rattle.teb_names.specs.declared.Reply.TheVariants.{Committed}
 use Rattle.teb_names.specs.declared.Request.{Request}
 use Rattle.teb_names.specs.declared.Session.{Session}
 use Rattle.short_reply.specs.declared.ShortReply.{ShortReply}
+use Rattle.teb_history.specs.declared.Event.{Event}
+use Rattle.teb_rules.specs.Answer.{answer}
+use Rattle.teb_rules.specs.Setup.{Store}
+use Rattle.commit_laws.specs.Commits.{commit_count}
 use Rattle.shared_store.specs.declared.entry.LifeEntry.{LifeEntry}
-use Rattle.shared_store.specs.declared.entry.LifeEntry.TheVariants.{Asked, Turned, Unsure}
-use Rattle.shared_store.specs.declared.error.Failure.{Failure}
-use Rattle.shared_store.specs.declared.error.Failure.TheVariants as failures
-use Rattle.shared_store.specs.declared.server.NoEpoch.{NoEpoch}
-use Rattle.shared_store.specs.Stages.{Stage, IsNextEpoch, asked_at}
-use Rattle.shared_store.specs.Lives.{IsLegalLife, IsShortOf, LeadsTo, Runs, unsure_in}
-use Rattle.shared_store.specs.Served.{IsAfterTry, IsAnswered, IsBegun, IsSame, IsServed, IsUnsure, Standing, stage_of}
-use Rattle.shared_store.specs.Holding.{IsLifeOf}
-
-runs_on : (g h k : Stage) (xs ys : List LifeEntry) → Runs g xs h → Runs h ys k → Runs g (xs ++ ys) k
-runs_on g h k [] ys r q = subst (λ (m : Stage). Runs m ys k) r q
-runs_on g h k (x ∷ xs) ys r q = (r.0, r.1, runs_on r.0 h k xs ys r.2 q)
+use Rattle.shared_store.specs.declared.entry.LifeEntry.TheVariants.{Asked, Taken, Turned, Stopped}
+use Rattle.shared_store.specs.declared.error.Fault.{Fault}
+use Rattle.shared_store.specs.Commits.{commits_in}
+use Rattle.shared_store.specs.Stages.{Stage, IsNextEpoch, commits_at, first_stage}
+use Rattle.shared_store.specs.Lives.{IsLegalLife, IsShortOf, LeadsTo, Runs, taken_of}
+use Rattle.shared_store.specs.Served.{IsAnsweredBy, IsBegun, IsServed, Standing}
+use Rattle.shared_store.specs.Holding.{IsBrought, IsKept, IsLifeOf, IsWaiting, stage_of}
+use Rattle.shared_store.proofs.Counting.{answer_counted}
+use Rattle.shared_store.proofs.Courses.{runs_on, taken_all, taken_behind}
 
 leads_on : (g h k : Stage) (xs ys : List LifeEntry) → LeadsTo g xs h → Runs h ys k → LeadsTo g (xs ++ ys) k
 leads_on g h k xs ys l q = ∥∥₁_map l (λ r. runs_on g h k xs ys r q)
@@ -29,86 +29,221 @@ is_legal g h es l = ∥∥₁_map l (λ r. (h, r))
 pub nothing_legal : (b : Stage) (es : List LifeEntry) → es ≡ [] → IsLegalLife b es
 nothing_legal b es e = subst (λ (l : List LifeEntry). IsLegalLife b l) (sym e) ∣ (b, refl) ∣₁
 
-unsure_on : (xs ys : List LifeEntry) → unsure_in (xs ++ ys) ≡ unsure_in xs + unsure_in ys
-unsure_on [] ys = omega arith
-unsure_on (Asked by s q r ∷ xs) ys = unsure_on xs ys
-unsure_on (Turned by ∷ xs) ys = unsure_on xs ys
-unsure_on (Unsure by ∷ xs) ys = let u = unsure_on xs ys in omega arith
+pub no_commits : (H : List Event) → H ≡ [] → commit_count H ≡ 0
+unfolding commit_count
+no_commits H e = ap commit_count e
 
-is_none : (u : ℕ) (stopped : Bool) → (0 < u → stopped ≡ true) → stopped ≡ false → u ≡ 0
-is_none zero stopped h e = refl
-is_none (suc u) stopped h e = absurd (true≢false (sym (h (omega arith)) ∙ e))
+-- a life that begins
+pub life_first : (x : Standing) (es : List LifeEntry) (commits past : ℕ) (stopped : Bool) → es ≡ [] → x.events ≡ [] → commits ≡ 0 → past ≡ 0 → stopped ≡ false
+    → IsLifeOf (first_stage x) (stage_of past stopped x) commits es
+life_first x es commits past stopped e none c p s = record {
+  leads = subst (λ (y : List LifeEntry × ℕ × Bool). LeadsTo (first_stage x) y.0 (stage_of y.1 y.2 x)) (λ i. (sym e i, sym p i, sym s i)) ∣ refl ∣₁;
+  counted = (let z = no_commits x.events none in omega arith);
+}
 
-module _ (first : Stage) (x y : Standing) where
-  pub life_first : (es : List LifeEntry) → es ≡ [] → first ≡ stage_of 0 x → y ≡ x → x.unkept ≡ 0 → IsLifeOf first y es
-  life_first es e b s z = subst (λ (p : Standing × List LifeEntry). IsLifeOf first p.0 p.1) (λ i. (sym s i, sym e i)) record { leads = ∣ sym b ∣₁; stopped = λ l. absurd (omega arith); kept = (let k : x.unkept ≤ 0 = omega arith in k) }
+pub waiting_first : (w : List Event → Type 0) (x : Standing) (es : List LifeEntry) (past : ℕ) (stopped : Bool) → es ≡ [] → x.events ≡ [] → past ≡ 0 → ∥ w [] ∥₁
+    → ∥ IsWaiting w (first_stage x) (stage_of past stopped x) es ∥₁
+waiting_first w x es past stopped e none p h = ∥∥₁_map h (λ q. record {
+  taken = first_stage x;
+  leads = subst (λ (l : List LifeEntry). Runs (first_stage x) (taken_of l) (first_stage x)) (sym e) refl;
+  store = refl;
+  past = sym p;
+  fewer = (let z : 0 + commit_count x.events ≤ past + commit_count x.events = omega arith in z);
+  wait = subst w (sym none) q;
+})
 
-  pub life_same : (es : List LifeEntry) → IsLifeOf first x es → IsSame x y → IsLifeOf first y es
-  life_same es l s = record {
-    leads = subst (λ (h : Stage). LeadsTo first es h) (λ i. record { store = sym s.store i; events = sym s.events i; unsure = unsure_in es }) l.leads;
-    stopped = λ k. s.stopped (l.stopped k);
-    kept = (let k = l.kept in let u = s.unkept in omega arith);
+module _ (first : Stage) (x y : Standing) (past : ℕ) (stopped : Bool) (commits : ℕ) (es : List LifeEntry) (l : IsLifeOf first (stage_of past stopped x) commits es) where
+  abbrev now : Stage
+  now = stage_of past stopped x
+
+  -- with a request
+  pub life_asked : (by s : Session) (q : Request) (r : Reply) (short : Option ShortReply) (new : List LifeEntry) (count : ℕ) → stopped ≡ false → IsAnsweredBy x y s q r → IsShortOf r short
+      → count ≡ commits + commits_in r → new ≡ es ++ Asked by s q short ∷ [] → IsLifeOf first (stage_of past stopped y) count new
+  life_asked by s q r short new count runs a h c is = record {
+    leads = subst (λ (n : List LifeEntry). LeadsTo first n (stage_of past stopped y)) (sym is) (leads_on first now (stage_of past stopped y) es (Asked by s q short ∷ []) l.leads (
+      stage_of past stopped y,
+      record {
+        runs = runs;
+        reply = subst (λ (p : Reply). IsShortOf p short) a.reply h;
+        next = λ i. record { standing = record { store = a.store i; events = a.events i }; past = past; stopped = stopped };
+      },
+      refl,
+    ));
+    counted = (
+        let k = l.counted in
+        let n = answer_counted x.store x.events s q in
+        let e : commit_count y.events ≡ commit_count (answer x.store x.events s q).1 = ap commit_count a.events in
+        let m : commits_in r ≡ commits_in (answer x.store x.events s q).0 = ap commits_in a.reply in
+        omega arith
+        );
   }
 
-  pub life_turned : (es : List LifeEntry) (by : Session) → IsLifeOf first x es → IsBegun x y → IsLifeOf first y (es ++ Turned by ∷ [])
-  life_turned es by l t =
-      let z = is_none (unsure_in es) x.stopped l.stopped t.runs in
-      let n = unsure_on es (Turned by ∷ []) in
-      let m : unsure_in (es ++ Turned by ∷ []) ≡ 0 = omega arith in record {
-        leads = leads_on first (stage_of (unsure_in es) x) (stage_of (unsure_in (es ++ Turned by ∷ [])) y) es (Turned by ∷ []) l.leads
-            (stage_of (unsure_in (es ++ Turned by ∷ [])) y, subst (λ (u : ℕ × ℕ). IsNextEpoch (stage_of u.0 x) (stage_of u.1 y)) (λ i. (sym z i, sym m i)) t.next, refl);
-        stopped = λ k. absurd (omega arith);
-        kept = (let k = t.kept in let r : y.unkept ≤ unsure_in (es ++ Turned by ∷ []) = omega arith in r);
-      }
+  -- with a mark that leaves the stage
+  pub life_taken : (new : List LifeEntry) → y ≡ x → new ≡ es ++ Taken ∷ [] → IsLifeOf first (stage_of past stopped y) commits new
+  life_taken new e is = subst (λ (p : Standing × List LifeEntry). IsLifeOf first (stage_of past stopped p.0) commits p.1) (λ i. (sym e i, sym is i))
+      record { leads = leads_on first now now es (Taken ∷ []) l.leads (now, refl, refl); counted = l.counted }
 
-  module _ (es : List LifeEntry) (by s : Session) (q : Request) (short : Option ShortReply) (l : IsLifeOf first x es) where
-    pub life_asked : (r : Reply) → IsAnswered x y s q r → IsShortOf r short → IsLifeOf first y (es ++ Asked by s q short ∷ [])
-    life_asked r a h =
-        let z = is_none (unsure_in es) x.stopped l.stopped a.runs in
-        let n = unsure_on es (Asked by s q short ∷ []) in
-        let m : unsure_in (es ++ Asked by s q short ∷ []) ≡ unsure_in es = omega arith in record {
-          leads = leads_on first (stage_of (unsure_in es) x) (stage_of (unsure_in (es ++ Asked by s q short ∷ [])) y) es (Asked by s q short ∷ []) l.leads (
-            stage_of (unsure_in (es ++ Asked by s q short ∷ [])) y,
-            record {
-              sure = z;
-              reply = subst (λ (p : Reply). IsShortOf p short) a.reply h;
-              next = λ i. record { store = a.store i; events = a.events i; unsure = m i };
-            },
-            refl,
-          );
-          stopped = λ k. absurd (omega arith);
-          kept = (let k = a.kept in let u : y.unkept ≤ unsure_in (es ++ Asked by s q short ∷ []) = omega arith in u);
-        }
+  pub life_stopped : (new : List LifeEntry) (stop : Bool) → stop ≡ true → new ≡ es ++ Stopped ∷ [] → IsLifeOf first (stage_of past stop x) commits new
+  life_stopped new stop t is = subst (λ (p : Bool × List LifeEntry). IsLifeOf first (stage_of past p.0 x) commits p.1) (λ i. (sym t i, sym is i))
+      record { leads = leads_on first now (stage_of past true x) es (Stopped ∷ []) l.leads (stage_of past true x, refl, refl); counted = l.counted }
 
-    pub life_unsure : IsUnsure x y s q → IsShortOf Committed short → IsLifeOf first y (es ++ Asked by s q short ∷ Unsure by ∷ [])
-    life_unsure a h =
-        let z = is_none (unsure_in es) x.stopped l.stopped a.runs in
-        let n = unsure_on es (Asked by s q short ∷ Unsure by ∷ []) in
-        let m : unsure_in (es ++ Asked by s q short ∷ Unsure by ∷ []) ≡ suc (unsure_in es) = omega arith in
-        let k = stage_of (unsure_in (es ++ Asked by s q short ∷ Unsure by ∷ [])) y in record {
-          leads = leads_on first (stage_of (unsure_in es) x) k es (Asked by s q short ∷ Unsure by ∷ []) l.leads (
-            asked_at (stage_of (unsure_in es) x) s q,
-            record { sure = z; reply = subst (λ (p : Reply). IsShortOf p short) (sym a.commit) h; next = refl },
-            (k, (λ i. record { store = a.store i; events = a.events i; unsure = m i }), refl),
-          );
-          stopped = λ _. a.stopped;
-          kept = (let j = l.kept in let u = a.unkept in omega arith);
-        }
+  pub life_same : y ≡ x → IsLifeOf first (stage_of past stopped y) commits es
+  life_same e = subst (λ (p : Standing). IsLifeOf first (stage_of past stopped p) commits es) (sym e) l
+
+  -- all that is taken waits no more
+  pub waiting_none : (w : List Event → Type 0) (new : List LifeEntry) → y ≡ x → new ≡ es ++ Taken ∷ [] → w y.events → ∥ IsWaiting w first (stage_of past stopped y) new ∥₁
+  waiting_none w new e is q = ∥∥₁_map l.leads (λ r. record {
+    taken = stage_of past stopped y;
+    leads = subst (λ (p : Standing × List LifeEntry). Runs first p.1 (stage_of past stopped p.0)) (λ i. (sym e i, sym (ap taken_of is ∙ taken_all es Taken refl) i))
+        (runs_on first now now es (Taken ∷ []) r (now, refl, refl));
+    store = refl;
+    past = refl;
+    fewer = (let z : past + commit_count y.events ≤ past + commit_count y.events = omega arith in z);
+    wait = q;
+  })
+
+  -- what was taken is brought to the log
+  pub brings_all : (w : List Event → Type 0) (brings : Store → List Event → List Event → Type 0) (new : List LifeEntry) → new ≡ es ++ Taken ∷ [] → ((H : List Event) → w H → brings x.store H x.events)
+      → ∥ IsWaiting w first now es ∥₁ → ∥ IsBrought brings first commits es new ∥₁
+  brings_all w brings new is b h = ∥∥₁_map₂ h l.leads (λ q r. record {
+    before = q.taken;
+    after = now;
+    begins = q.leads;
+    ends = subst (λ (n : List LifeEntry). Runs first n now) (sym (ap taken_of is ∙ taken_all es Taken refl)) (runs_on first now now es (Taken ∷ []) r (now, refl, refl));
+    store = q.store;
+    past = q.past;
+    fewer = q.fewer;
+    counted = l.counted;
+    brought = b q.taken.standing.events q.wait;
+  })
+
+module _ (w v : List Event → Type 0) (goes_on : (H : List Event) → w H → v H) (first : Stage) (x y : Standing) (past : ℕ) (stopped : Bool) (es : List LifeEntry)
+    (h : ∥ IsWaiting w first (stage_of past stopped x) es ∥₁) where
+  pub waiting_asked : (by s : Session) (q : Request) (r : Reply) (short : Option ShortReply) (new : List LifeEntry) → IsAnsweredBy x y s q r → new ≡ es ++ Asked by s q short ∷ []
+      → ∥ IsWaiting v first (stage_of past stopped y) new ∥₁
+  waiting_asked by s q r short new a is = ∥∥₁_map h (λ k. record {
+    taken = k.taken;
+    leads = subst (λ (n : List LifeEntry). Runs first n k.taken) (sym (ap taken_of is ∙ taken_behind es (Asked by s q short ∷ []) refl)) k.leads;
+    store = k.store ∙ sym a.store;
+    past = k.past;
+    fewer = (
+        let n = answer_counted x.store x.events s q in
+        let e : commit_count y.events ≡ commit_count (answer x.store x.events s q).1 = ap commit_count a.events in
+        let f = k.fewer in
+        let z : commits_at k.taken ≤ past + commit_count y.events = omega arith in z
+        );
+    wait = goes_on k.taken.standing.events k.wait;
+  })
+
+  pub waiting_same : y ≡ x → ∥ IsWaiting v first (stage_of past stopped y) es ∥₁
+  waiting_same e = ∥∥₁_map h (λ k. record {
+    taken = k.taken;
+    leads = k.leads;
+    store = k.store ∙ ap (λ (p : Standing). p.store) (sym e);
+    past = k.past;
+    fewer = subst (λ (p : Standing). commits_at k.taken ≤ past + commit_count p.events) (sym e) k.fewer;
+    wait = goes_on k.taken.standing.events k.wait;
+  })
+
+  pub waiting_stopped : (new : List LifeEntry) (stop : Bool) → new ≡ es ++ Stopped ∷ [] → ∥ IsWaiting v first (stage_of past stop x) new ∥₁
+  waiting_stopped new stop is = ∥∥₁_map h (λ k. record {
+    taken = k.taken;
+    leads = subst (λ (n : List LifeEntry). Runs first n k.taken) (sym (ap taken_of is ∙ taken_behind es (Stopped ∷ []) refl)) k.leads;
+    store = k.store;
+    past = k.past;
+    fewer = k.fewer;
+    wait = goes_on k.taken.standing.events k.wait;
+  })
 
 -- what a result of the server makes of a life
-module _ (first : Stage) (x y : Standing) (es mid new : List LifeEntry) (same : mid ≡ es) (l : IsLifeOf first x es) where
-  pub served_ok : (by s : Session) (q : Request) (o : Result Reply Failure) (r : Reply) (short : Option ShortReply) → o ≡ Ok r → IsServed x y s q o → IsShortOf r short → new ≡ mid ++ Asked by s q short ∷ [] → IsLifeOf first y new
-  served_ok by s q o r short e a h is = subst (λ (n : List LifeEntry). IsLifeOf first y n) (sym (is ∙ ap (λ (k : List LifeEntry). k ++ Asked by s q short ∷ []) same))
-      (life_asked first x y es by s q short l r (subst (λ (p : Result Reply Failure). IsServed x y s q p) e a) h)
+module _ (first : Stage) (x y : Standing) (past : ℕ) (stopped : Bool) (commits : ℕ) (es : List LifeEntry) (l : IsLifeOf first (stage_of past stopped x) commits es) (s : Session) (q : Request)
+    (o : Result Reply Fault) (a : IsServed x y s q o) where
+  pub served_life : (by : Session) (r : Reply) (short : Option ShortReply) (new : List LifeEntry) (count : ℕ) → stopped ≡ false → o ≡ Ok r → IsShortOf r short → count ≡ commits + commits_in r
+      → new ≡ es ++ Asked by s q short ∷ [] → IsLifeOf first (stage_of past stopped y) count new
+  served_life by r short new count runs e h c is = life_asked first x y past stopped commits es l by s q r short new count runs (subst (IsServed x y s q) e a) h c is
 
-  pub served_unsure : (by s : Session) (q : Request) (o : Result Reply Failure) (short : Option ShortReply) (half : List LifeEntry) → o ≡ Err failures.Unsure → IsServed x y s q o → IsShortOf Committed short → half ≡ mid ++ Asked by s q short ∷ [] → new ≡ half ++ Unsure by ∷ []
-      → IsLifeOf first y new
-  served_unsure by s q o short half e a h two is = subst (λ (n : List LifeEntry). IsLifeOf first y n)
-      (sym (is ∙ (ap (λ (k : List LifeEntry). k ++ Unsure by ∷ []) (two ∙ ap (λ (k : List LifeEntry). k ++ Asked by s q short ∷ []) same) ∙ append_assoc es (Asked by s q short ∷ []) (Unsure by ∷ []))))
-      (life_unsure first x y es by s q short l (subst (λ (p : Result Reply Failure). IsServed x y s q p) e a) h)
+  pub unserved_life : (f : Fault) → o ≡ Err f → IsLifeOf first (stage_of past stopped y) commits es
+  unserved_life f e = life_same first x y past stopped commits es l (subst (IsServed x y s q) e a)
 
-  pub tried_ok : (by : Session) (o : Result (Unit {0}) NoEpoch) (u : Unit {0}) → o ≡ Ok u → IsAfterTry x y o → new ≡ mid ++ Turned by ∷ [] → IsLifeOf first y new
-  tried_ok by o u e a is = subst (λ (n : List LifeEntry). IsLifeOf first y n) (sym (is ∙ ap (λ (k : List LifeEntry). k ++ Turned by ∷ []) same)) (life_turned first x y es by l (subst (λ (p : Result (Unit {0}) NoEpoch). IsAfterTry x y p) e a))
+module _ (w v : List Event → Type 0) (goes_on : (H : List Event) → w H → v H) (first : Stage) (x y : Standing) (past : ℕ) (stopped : Bool) (es : List LifeEntry)
+    (h : ∥ IsWaiting w first (stage_of past stopped x) es ∥₁) (s : Session) (q : Request) (o : Result Reply Fault) (a : IsServed x y s q o) where
+  pub served_waiting : (by : Session) (r : Reply) (short : Option ShortReply) (new : List LifeEntry) → o ≡ Ok r → new ≡ es ++ Asked by s q short ∷ []
+      → ∥ IsWaiting v first (stage_of past stopped y) new ∥₁
+  served_waiting by r short new e is = waiting_asked w v goes_on first x y past stopped es h by s q r short new (subst (IsServed x y s q) e a) is
 
-  pub tried_err : (o : Result (Unit {0}) NoEpoch) (w : NoEpoch) → o ≡ Err w → IsAfterTry x y o → IsLifeOf first y mid
-  tried_err o w e a = subst (λ (n : List LifeEntry). IsLifeOf first y n) (sym same) (life_same first x y es l (subst (λ (p : Result (Unit {0}) NoEpoch). IsAfterTry x y p) e a))
+  pub unserved_waiting : (f : Fault) → o ≡ Err f → ∥ IsWaiting v first (stage_of past stopped y) es ∥₁
+  unserved_waiting f e = waiting_same w v goes_on first x y past stopped es h (subst (IsServed x y s q) e a)
+
+-- a server that was as at first
+pub new_life : (x f : Standing) (es : List LifeEntry) → f ≡ x → es ≡ [] → x.events ≡ [] → IsLifeOf (first_stage f) (stage_of 0 false x) 0 es
+new_life x f es e none fresh = subst (λ (y : Standing). IsLifeOf (first_stage y) (stage_of 0 false x) 0 es) (sym e) (life_first x es 0 0 false none fresh refl refl refl)
+
+pub new_waiting : (w : List Event → Type 0) (x f : Standing) (es : List LifeEntry) → f ≡ x → es ≡ [] → x.events ≡ [] → ∥ w [] ∥₁ → ∥ IsWaiting w (first_stage f) (stage_of 0 false x) es ∥₁
+new_waiting w x f es e none fresh h = subst (λ (y : Standing). ∥ IsWaiting w (first_stage y) (stage_of 0 false x) es ∥₁) (sym e) (waiting_first w x es 0 false none fresh refl h)
+
+-- an epoch that has ended
+module _ (first : Stage) (x y : Standing) (past commits : ℕ) (stopped : Bool) (es new : List LifeEntry) (l : IsLifeOf first (stage_of past stopped x) commits es) (runs : stopped ≡ false)
+    (begun : IsBegun x y) (is : new ≡ es ++ Turned ∷ []) where
+  next : IsNextEpoch (stage_of past stopped x) (stage_of commits stopped y)
+  next = record { runs = (runs, runs); begun = begun; past = l.counted }
+
+  pub life_turned : IsLifeOf first (stage_of commits stopped y) commits new
+  life_turned = record {
+    leads = subst (λ (n : List LifeEntry). LeadsTo first n (stage_of commits stopped y)) (sym is)
+        (leads_on first (stage_of past stopped x) (stage_of commits stopped y) es (Turned ∷ []) l.leads (stage_of commits stopped y, next, refl));
+    counted = (let z = no_commits y.events begun.events in omega arith);
+  }
+
+  runs_turned : Runs first es (stage_of past stopped x) → Runs first (taken_of new) (stage_of commits stopped y)
+  runs_turned r = subst (λ (n : List LifeEntry). Runs first n (stage_of commits stopped y)) (sym (ap taken_of is ∙ taken_all es Turned refl))
+      (runs_on first (stage_of past stopped x) (stage_of commits stopped y) es (Turned ∷ []) r (stage_of commits stopped y, next, refl))
+
+  pub waiting_turned : (w : List Event → Type 0) → ∥ w [] ∥₁ → ∥ IsWaiting w first (stage_of commits stopped y) new ∥₁
+  waiting_turned w h = ∥∥₁_map₂ h l.leads (λ q r. record {
+    taken = stage_of commits stopped y;
+    leads = runs_turned r;
+    store = refl;
+    past = refl;
+    fewer = (let z : commits + commit_count y.events ≤ commits + commit_count y.events = omega arith in z);
+    wait = subst w (sym begun.events) q;
+  })
+
+  pub kept_turned : (keep : Store → List Event → ℕ → Type 0) → ∥ keep y.store [] 0 ∥₁ → ∥ IsKept keep first false commits new ∥₁
+  kept_turned keep h = ∥∥₁_map₂ h l.leads (λ q r. record {
+    taken = stage_of commits stopped y;
+    leads = runs_turned r;
+    count = 0;
+    keeps = subst (λ (H : List Event). keep y.store H 0) (sym begun.events) q;
+    counted = (let z : commits ≡ commits + 0 = omega arith in z);
+    all = λ _. sym (no_commits y.events begun.events);
+  })
+
+-- an epoch that goes on, of which all was taken
+module _ (first : Stage) (x y : Standing) (past commits : ℕ) (stopped : Bool) (es : List LifeEntry) (l : IsLifeOf first (stage_of past stopped x) commits es) (same : y ≡ x)
+    (taken : taken_of es ≡ es) where
+  pub waiting_on : (w : List Event → Type 0) → ∥ w x.events ∥₁ → ∥ IsWaiting w first (stage_of past stopped y) es ∥₁
+  waiting_on w h = subst (λ (z : Standing). ∥ IsWaiting w first (stage_of past stopped z) es ∥₁) (sym same) (∥∥₁_map₂ h l.leads (λ q r. record {
+    taken = stage_of past stopped x;
+    leads = subst (λ (n : List LifeEntry). Runs first n (stage_of past stopped x)) (sym taken) r;
+    store = refl;
+    past = refl;
+    fewer = (let z : past + commit_count x.events ≤ past + commit_count x.events = omega arith in z);
+    wait = q;
+  }))
+
+  pub kept_on : (keep : Store → List Event → ℕ → Type 0) → ∥ keep x.store x.events (commit_count x.events) ∥₁ → ∥ IsKept keep first false commits es ∥₁
+  kept_on keep h = ∥∥₁_map₂ h l.leads (λ q r. record {
+    taken = stage_of past stopped x;
+    leads = subst (λ (n : List LifeEntry). Runs first n (stage_of past stopped x)) (sym taken) r;
+    count = commit_count x.events;
+    keeps = q;
+    counted = l.counted;
+    all = λ _. refl;
+  })
+
+-- a life all of which was taken
+pub all_taken : (first now : Stage) (old new : List LifeEntry) → new ≡ old ++ Taken ∷ [] → LeadsTo first new now → (taken_of new ≡ new) × ∥ Runs first (taken_of new) now ∥₁
+all_taken first now old new is l = let e : taken_of new ≡ new = ap taken_of is ∙ (taken_all old Taken refl ∙ sym is) in (e, subst (λ (n : List LifeEntry). ∥ Runs first n now ∥₁) (sym e) l)
+
+pub stop_taken : (old new : List LifeEntry) → new ≡ old ++ Stopped ∷ [] → taken_of new ≡ taken_of old
+stop_taken old new is = ap taken_of is ∙ taken_behind old (Stopped ∷ []) refl

@@ -1,22 +1,85 @@
--- One turn at the store: what was taken, what is left, and what the seat knows then.
-use Rattle.std.proofs.Common.{◌≡◌, ℕ, List, [], ◌∷◌, ◌++◌, Some, sym, ◌∙◌, ap, subst, arith}
+-- One turn at the front: what was taken, what is left, and what the seat knows then.
+use Rattle.std.proofs.Common.{◌≡◌, ℕ, ◌+◌, Bool, List, [], ◌∷◌, ◌++◌, Some, All, append-nil, append_assoc, refl, sym, ◌∙◌, ap, subst, arith}
+use mathlib.Core.Logic.{∥∥₁_map}
+use Rattle.teb_names.specs.declared.Reply.{Reply as TheReply}
+use Rattle.teb_names.specs.declared.Request.{Request}
+use Rattle.teb_names.specs.declared.Session.{Session}
+use Rattle.teb_history.specs.declared.Event.{Event}
+use Rattle.teb_rules.specs.Setup.{Store}
 use Rattle.turn_lock.specs.declared.view.View.{View}
 use Rattle.turn_lock.specs.Counts.{times, Has}
 use Rattle.turn_lock.specs.Views.{departed}
 use Rattle.turn_lock.specs.Calls.{Follows, Enters, Adds}
 use Rattle.turn_lock.proofs.Counts.{same_yes}
-use Rattle.turn_lock.proofs.Lists.{All_map, Some_is}
+use Rattle.turn_lock.proofs.Lists.{All_cons, All_map, All_none, Some_is}
 use Rattle.shared_store.specs.declared.entry.LifeEntry.{LifeEntry}
+use Rattle.shared_store.specs.declared.entry.LifeEntry.TheVariants.{Asked, Stopped}
+use Rattle.shared_store.specs.declared.entry.TheConstants.{LOG_SEAT}
+use Rattle.shared_store.specs.declared.answer.Answer.{Answer}
+use Rattle.shared_store.specs.declared.answer.Answer.TheVariants as answer
+use Rattle.shared_store.specs.declared.reply.StoreReply.TheVariants.{Reply, Later, Ended}
 use Rattle.shared_store.specs.declared.server.EpochServer.{Ghosts}
 use Rattle.shared_store.specs.declared.hosted.Hosted.{Hosted}
-use Rattle.shared_store.specs.Stages.{Stage}
-use Rattle.shared_store.specs.Served.{stage_of}
-use Rattle.shared_store.specs.Lives.{IsLegalLife, owner_of, unsure_in}
+use Rattle.shared_store.specs.Stages.{Stage, first_stage}
+use Rattle.shared_store.specs.Holding.{IsBrought, IsKept, stage_of}
+use Rattle.shared_store.specs.Seated.{IsKeptAt}
+use Rattle.shared_store.specs.Lives.{IsLegalLife, LeadsTo, Runs, calls_of, owner_of, taken_of}
 use Rattle.shared_store.specs.Hosting.{entries_in, note_in, first_of}
-use Rattle.shared_store.specs.Turning.{Finds, GrowsBy, TakesTurn}
+use Rattle.shared_store.specs.Turning.{AddsCall, AddsMarks, GrowsBy, IsNumbered}
+use Rattle.shared_store.specs.Turning as turning
+use Rattle.shared_store.specs.Gaining.{IsCountedIn, LogTurn, Sees, SeesCall, SeesMarks, TakesBatch, TakesNone, TakesTurns}
+use Rattle.shared_store.proofs.Calls.{calls_append, marks_none, one_call, others_none}
+use Rattle.shared_store.proofs.Courses.{others_take_none, taken_behind}
 use Rattle.shared_store.proofs.Living.{is_legal}
+use Rattle.shared_store.proofs.Keeping.{kept_still}
 
-module _ {V : Type 0} {g : Ghosts V} (s : ℕ) (v0 v1 : View LifeEntry Stage) (x0 x1 : Hosted V g) where
+-- what a session sees of what is added among entries of others
+module _ (s : Session) (v w : View LifeEntry Stage) (o : v.owners ≡ s.0 ∷ []) (between : List LifeEntry) (others : All (λ (e : LifeEntry). times (owner_of e) v.owners ≡ 0) between) where
+  more_calls : (marks : List LifeEntry) → calls_of s.0 marks ≡ [] → calls_of s.0 (v.seen ++ (between ++ marks)) ≡ calls_of s.0 v.seen
+  more_calls marks b = ap (calls_of s.0) (sym (append_assoc v.seen between marks))
+      ∙ (calls_append s.0 (v.seen ++ between) marks ∙ (ap (λ (p : List LifeEntry × List LifeEntry). p.0 ++ p.1) (λ i. (others_none s.0 v.owners v.seen between o others i, b i))
+      ∙ append-nil (calls_of s.0 v.seen)))
+
+  pub sees_marks : AddsMarks s.0 (v.seen ++ between) w.seen → SeesMarks s.0 v w
+  sees_marks a = record {
+    more = between ++ a.marks;
+    is = is;
+    calls = ap (calls_of s.0) is ∙ more_calls a.marks (marks_none s.0 a.marks a.mine);
+  }
+    where
+      is : w.seen ≡ v.seen ++ (between ++ a.marks)
+      is = a.is ∙ append_assoc v.seen between a.marks
+
+  pub sees_call : (b : Stage) (q : Request) (r : TheReply) → AddsCall b s q r (v.seen ++ between) w.seen → SeesCall b s q r v w
+  sees_call b q r a = record {
+    between = between ++ a.goes_on.marks;
+    short = a.short;
+    stage = a.stage;
+    is = is;
+    leads = subst (λ (l : List LifeEntry). LeadsTo b l a.stage) before a.leads;
+    reply = a.reply;
+    short_of = a.short_of;
+    calls = ap (calls_of s.0) is ∙ (calls_append s.0 (v.seen ++ (between ++ a.goes_on.marks)) (call ∷ [])
+        ∙ ap (λ (p : List LifeEntry × List LifeEntry). p.0 ++ p.1) (λ i. (more_calls a.goes_on.marks (marks_none s.0 a.goes_on.marks a.goes_on.mine) i, one_call s q a.short i)));
+  }
+    where
+      call : LifeEntry
+      call = Asked s s q a.short
+
+      before : a.before ≡ v.seen ++ (between ++ a.goes_on.marks)
+      before = a.goes_on.is ∙ append_assoc v.seen between a.goes_on.marks
+
+      is : w.seen ≡ (v.seen ++ (between ++ a.goes_on.marks)) ++ call ∷ []
+      is = a.is ∙ ap (λ (l : List LifeEntry). l ++ call ∷ []) before
+
+  pub sees : (b : Stage) (q : Request) (r : Answer) → turning.Adds b s q r (v.seen ++ between) w.seen → Sees b s q r v w
+  sees b q (answer.Reply (Reply r) n) a = sees_call b q r a
+  sees b q (answer.Reply Later n) a = sees_marks a
+  sees b q (answer.Reply (Ended r) n) a = sees_marks a
+  sees b q answer.Ending a = sees_marks a
+  sees b q (answer.Unasked f) a = sees_marks a
+
+module _ {V L B : Type 0} {g : Ghosts V L B} (s : ℕ) (v0 v1 : View LifeEntry Stage) (x0 x1 : Hosted V L B g) where
   -- x0 was taken with the view v1, and x1 is to be left with it
   pub record Took : Type 0 where
     pub owner : v0.owners ≡ s ∷ []
@@ -26,7 +89,7 @@ module _ {V : Type 0} {g : Ghosts V} (s : ℕ) (v0 v1 : View LifeEntry Stage) (x
     pub first : x1.first ≡ x0.first
 
   same_base : Took → first_of x1 ≡ first_of x0
-  same_base t = ap (λ f. stage_of 0 (g.standing f.value)) t.first
+  same_base t = ap (λ f. first_stage (g.standing f.value)) t.first
 
   base_is : Took → v1.base ≡ Some (first_of x1)
   base_is t = t.enters.base ∙ (t.follows.has_base ∙ ap (λ (b : Stage). Some b) (sym (same_base t)))
@@ -44,29 +107,90 @@ module _ {V : Type 0} {g : Ghosts V} (s : ℕ) (v0 v1 : View LifeEntry Stage) (x
     has_notes = λ i. sym (t.enters.notes i);
   }
 
-  -- what the seat knows once it is left
-  pub takes : (w : View LifeEntry Stage) → Took → w ≡ departed (entries_in x1) v1 → TakesTurn v0 w
-  takes w t e = record {
-    base = ap (λ (v : View LifeEntry Stage). v.base) e ∙ t.enters.base;
-    owners = ap (λ (v : View LifeEntry Stage). v.owners) e ∙ t.enters.owners;
-    turns = (let k : w.turns ≡ v1.turns = ap (λ (v : View LifeEntry Stage). v.turns) e in let n = t.enters.turns in omega arith);
-    legal = λ b h. subst (λ (y : Stage × List LifeEntry). IsLegalLife y.0 y.1) (λ i. (its b h i, sym seen i)) (is_legal (first_of x1) (stage_of (unsure_in (entries_in x1)) (g.standing x1.server)) (entries_in x1) x1.life.leads);
-  }
-    where
-      seen : w.seen ≡ entries_in x1
-      seen = ap (λ (v : View LifeEntry Stage). v.seen) e
+  module _ (w : View LifeEntry Stage) (t : Took) (e : w ≡ departed (entries_in x1) v1) where
+    seen : w.seen ≡ entries_in x1
+    seen = ap (λ (v : View LifeEntry Stage). v.seen) e
 
-      its : (b : Stage) → w.base ≡ Some b → first_of x1 ≡ b
-      its b h = Some_is (sym (ap (λ (v : View LifeEntry Stage). v.base) e ∙ base_is t) ∙ h)
+    base : w.base ≡ v0.base
+    base = ap (λ (v : View LifeEntry Stage). v.base) e ∙ t.enters.base
 
-  -- what it found, and what it left
-  pub finds : (w : View LifeEntry Stage) (P : List LifeEntry → List LifeEntry → Type 0) → Took → w ≡ departed (entries_in x1) v1 → P (entries_in x0) (entries_in x1) → Finds v0 w P
-  finds w P t e p = record {
-    between = t.follows.goes.more;
-    others = t.follows.goes.others;
-    adds = subst (λ (l : List LifeEntry × List LifeEntry). P l.0 l.1) (λ i. (t.follows.goes.is i, sym (ap (λ (v : View LifeEntry Stage). v.seen) e) i)) p;
-  }
+    owners : w.owners ≡ v0.owners
+    owners = ap (λ (v : View LifeEntry Stage). v.owners) e ∙ t.enters.owners
 
-  -- the base of the turn is where the life of its value began
-  pub first_is : (b : Stage) → v0.base ≡ Some b → Took → first_of x0 ≡ b
-  first_is b h t = Some_is (sym t.follows.has_base ∙ h)
+    turns : w.turns + 1 ≡ v0.turns
+    turns = let k : w.turns ≡ v1.turns = ap (λ (v : View LifeEntry Stage). v.turns) e in let n = t.enters.turns in omega arith
+
+    -- what the seat knows once it is left
+    pub takes : TakesTurns 1 v0 w
+    takes = record {
+      base = base;
+      owners = owners;
+      turns = (let k = turns in omega arith);
+      legal = λ b h. subst (λ (y : Stage × List LifeEntry). IsLegalLife y.0 y.1) (λ i. (its b h i, sym seen i))
+          (is_legal (first_of x1) (stage_of x1.past x1.stopped (g.standing x1.server)) (entries_in x1) x1.life.leads);
+    }
+      where
+        its : (b : Stage) → w.base ≡ Some b → first_of x1 ≡ b
+        its b h = Some_is (sym (ap (λ (v : View LifeEntry Stage). v.base) e ∙ base_is t) ∙ h)
+
+    pub log_turn : LogTurn v0 w
+    log_turn = record { base = base; owners = owners; turns = turns }
+
+    -- the base of the turn is where the life of its value began
+    first_is : (b : Stage) → v0.base ≡ Some b → first_of x0 ≡ b
+    first_is b h = Some_is (sym t.follows.has_base ∙ h)
+
+    found : (P : List LifeEntry → List LifeEntry → Type 0) → P (entries_in x0) (entries_in x1) → P (v0.seen ++ t.follows.goes.more) w.seen
+    found P p = subst (λ (l : List LifeEntry × List LifeEntry). P l.0 l.1) (λ i. (t.follows.goes.is i, sym seen i)) p
+
+    pub counts : (b : Stage) (r : Answer) → v0.base ≡ Some b → IsNumbered x1.commits r → IsCountedIn b r w.seen
+    counts b (answer.Reply a n) h k = record {
+      stage = stage_of x1.past x1.stopped (g.standing x1.server);
+      leads = subst (λ (y : Stage × List LifeEntry). LeadsTo y.0 y.1 (stage_of x1.past x1.stopped (g.standing x1.server))) (λ i. ((same_base t ∙ first_is b h) i, sym seen i)) x1.life.leads;
+      counted = k ∙ x1.life.counted;
+    }
+    counts b answer.Ending h k = tt
+    counts b (answer.Unasked f) h k = tt
+
+-- a session that asked
+module _ {V L B : Type 0} {g : Ghosts V L B} (s : Session) (v0 v1 : View LifeEntry Stage) (x0 x1 : Hosted V L B g) (w : View LifeEntry Stage) (t : Took s.0 v0 v1 x0 x1)
+    (e : w ≡ departed (entries_in x1) v1) where
+  pub sees_answer : (b : Stage) (q : Request) (r : Answer) → v0.base ≡ Some b → turning.Adds (first_of x0) s q r (entries_in x0) (entries_in x1) → Sees b s q r v0 w
+  sees_answer b q r h a =
+      sees s v0 w t.owner t.follows.goes.more t.follows.goes.others b q r
+      (found s.0 v0 v1 x0 x1 w t e (λ (l m : List LifeEntry). turning.Adds b s q r l m)
+      (subst (λ (y : Stage). turning.Adds y s q r (entries_in x0) (entries_in x1)) (first_is s.0 v0 v1 x0 x1 w t e b h) a))
+
+  pub sees_none : AddsMarks s.0 (entries_in x0) (entries_in x1) → SeesMarks s.0 v0 w
+  sees_none a = sees_marks s v0 w t.owner t.follows.goes.more t.follows.goes.others (found s.0 v0 v1 x0 x1 w t e (λ (l m : List LifeEntry). AddsMarks s.0 l m) a)
+
+pub mark_grows : (mark : LifeEntry) (old new : List LifeEntry) → owner_of mark ≡ LOG_SEAT → new ≡ old ++ mark ∷ [] → GrowsBy LOG_SEAT old new
+mark_grows mark old new o is = record { more = mark ∷ []; is = is; mine = All_cons (λ (e : LifeEntry). owner_of e ≡ LOG_SEAT) mark [] o (All_none (λ (e : LifeEntry). owner_of e ≡ LOG_SEAT)) }
+
+-- the log's seat
+module _ {V L B : Type 0} {g : Ghosts V L B} (v0 v1 : View LifeEntry Stage) (x0 x1 : Hosted V L B g) (w : View LifeEntry Stage) (t : Took LOG_SEAT v0 v1 x0 x1) (e : w ≡ departed (entries_in x1) v1)
+  where
+    still : taken_of (entries_in x0) ≡ taken_of v0.seen
+    still = ap taken_of t.follows.goes.is ∙ taken_behind v0.seen t.follows.goes.more (others_take_none v0.owners t.follows.goes.more t.owner t.follows.goes.others)
+
+    pub takes_batch : (brings : Store → List Event → List Event → Type 0) (commits : ℕ) → ∥ IsBrought brings (first_of x0) commits (entries_in x0) (entries_in x1) ∥₁ → TakesBatch brings commits v0 w
+    takes_batch brings commits h = record {
+      brought = λ b z. ∥∥₁_map h (λ q.
+          let P : List LifeEntry × List LifeEntry × Stage → Type 0 = λ p. Runs p.2 p.0 q.before × Runs p.2 (taken_of p.1) q.after in
+          let r = subst P (λ i. (still i, sym (seen LOG_SEAT v0 v1 x0 x1 w t e) i, first_is LOG_SEAT v0 v1 x0 x1 w t e b z i)) (q.begins, q.ends) in
+          record { before = q.before; after = q.after; begins = r.0; ends = r.1; store = q.store; past = q.past; fewer = q.fewer; counted = q.counted; brought = q.brought });
+    }
+
+    pub takes_none : entries_in x1 ≡ entries_in x0 ++ Stopped ∷ [] → TakesNone v0 w
+    takes_none is = record { same = ap taken_of (seen LOG_SEAT v0 v1 x0 x1 w t e ∙ is) ∙ (taken_behind (entries_in x0) (Stopped ∷ []) refl ∙ still) }
+
+    -- what the log keeps of what the seat has seen, it keeps of the life that is found
+    pub kept_found : (keep : Store → List Event → ℕ → Type 0) (failed : Bool) (total : ℕ) → IsKeptAt keep failed total v0 → ∥ IsKept keep (first_of x0) failed total (entries_in x0) ∥₁
+    kept_found keep failed total k = kept_still keep (first_of x0) failed failed total v0.seen (entries_in x0) still (λ y. y) (k.kept (first_of x0) t.follows.has_base)
+
+    -- and what it keeps of the life that is left, it keeps of what the seat has seen then
+    pub kept_left : (keep : Store → List Event → ℕ → Type 0) (failed : Bool) (total : ℕ) → ∥ IsKept keep (first_of x0) failed total (entries_in x1) ∥₁ → IsKeptAt keep failed total w
+    kept_left keep failed total k = record {
+      kept = λ b z. subst (λ (p : Stage × List LifeEntry). ∥ IsKept keep p.0 failed total p.1 ∥₁)
+          (λ i. (first_is LOG_SEAT v0 v1 x0 x1 w t e b (sym (base LOG_SEAT v0 v1 x0 x1 w t e) ∙ z) i, sym (seen LOG_SEAT v0 v1 x0 x1 w t e) i)) k;
+    }

@@ -1,63 +1,46 @@
--- What a server makes of a request, and of the end of an epoch.
-use Rattle.std.specs.Prelude.{◌≡◌, ℕ, suc, ◌≤◌, Bool, true, false, List, Result, Ok, Err}
+-- Where a server is, and what it makes of a request and of the end of an epoch.
+use Rattle.std.specs.Prelude.{◌≡◌, ℕ, ℤ, List, [], Some, IsTrue, Result, Ok, Err}
+use Rattle.teb_names.specs.declared.Cell.{Cell}
 use Rattle.teb_names.specs.declared.Reply.{Reply}
-use Rattle.teb_names.specs.declared.Reply.TheVariants as replies
 use Rattle.teb_names.specs.declared.Request.{Request}
 use Rattle.teb_names.specs.declared.Session.{Session}
+use Rattle.teb_names.specs.Rows.{row_of, IsAscending}
 use Rattle.teb_history.specs.declared.Event.{Event}
+use Rattle.teb_history.specs.Phases.{unfinished, aborted, held}
 use Rattle.teb_rules.specs.Answer.{answer}
+use Rattle.teb_rules.specs.Serializes.{final_table}
 use Rattle.teb_rules.specs.Setup.{Store}
-use Rattle.shared_store.specs.declared.error.Failure.{Failure}
-use Rattle.shared_store.specs.declared.error.Failure.TheVariants.{Unasked, Unsure}
-use Rattle.shared_store.specs.declared.server.NoEpoch.{NoEpoch}
-use Rattle.shared_store.specs.Stages.{Stage, IsNextEpoch}
+use Rattle.shared_store.specs.declared.error.Fault.{Fault}
 
--- a server: the store that its epoch began with, the history, whether it serves no more, and how many commits of the epoch a crash may lose
+-- the store that the present epoch began with, and its history
 pub record Standing : Type 0 where
   pub store : Store
   pub events : List Event
-  pub stopped : Bool
-  pub unkept : ℕ
 
--- the stage of a server, if so many commits were answered Unsure
-abbrev pub stage_of : ℕ → Standing → Stage
-stage_of unsure x = record { store = x.store; events = x.events; unsure = unsure }
-
--- answered as the rules do; no crash loses a commit of the epoch
-pub record IsAnswered (old new : Standing) (s : Session) (q : Request) (r : Reply) : Type 0 where
-  pub runs : old.stopped ≡ false
+-- answered as the rules do
+pub record IsAnsweredBy (old new : Standing) (s : Session) (q : Request) (r : Reply) : Type 0 where
   pub reply : r ≡ (answer old.store old.events s q).0
   pub store : new.store ≡ old.store
   pub events : new.events ≡ (answer old.store old.events s q).1
-  pub kept : new.unkept ≡ 0
 
--- a commit that a crash may lose
-pub record IsUnsure (old new : Standing) (s : Session) (q : Request) : Type 0 where
-  pub runs : old.stopped ≡ false
-  pub commit : (answer old.store old.events s q).0 ≡ replies.Committed
-  pub store : new.store ≡ old.store
-  pub events : new.events ≡ (answer old.store old.events s q).1
-  pub stopped : new.stopped ≡ true
-  pub unkept : new.unkept ≤ suc old.unkept
+abbrev pub IsServed : Standing → Standing → Session → Request → Result Reply Fault → Type 0
+IsServed old new s q (Ok r) = IsAnsweredBy old new s q r
+IsServed old new s q (Err f) = new ≡ old
 
-abbrev pub IsServed : Standing → Standing → Session → Request → Result Reply Failure → Type 0
-IsServed old new s q (Ok r) = IsAnswered old new s q r
-IsServed old new s q (Err Unsure) = IsUnsure old new s q
-IsServed old new s q (Err (Unasked f)) = new ≡ old
+-- no transaction is unfinished, and no session holds an aborted one
+pub record IsDrained (H : List Event) : Type 0 where
+  pub finished : (t : ℕ) → ¬ IsTrue (unfinished H t)
+  pub told : (s t : ℕ) → held H s ≡ Some t → ¬ IsTrue (aborted H t)
 
--- the next epoch has begun
+-- these rows, in ascending order of cells, are those of the final table
+pub record AreLeft (X : Store) (H : List Event) (rows : List (Cell × ℤ)) : Type 0 where
+  pub ascending : IsAscending rows
+  pub each : (x : Cell) → row_of rows x ≡ final_table X H x
+
+-- an epoch that was drained, and the next one: the same tree and tables, with the rows that the first left, and nothing has happened
 pub record IsBegun (old new : Standing) : Type 0 where
-  pub runs : old.stopped ≡ false
-  pub next : IsNextEpoch (stage_of 0 old) (stage_of 0 new)
-  pub kept : new.unkept ≡ 0
-
--- it has not; the disk may have failed
-pub record IsSame (old new : Standing) : Type 0 where
-  pub store : new.store ≡ old.store
-  pub events : new.events ≡ old.events
-  pub stopped : old.stopped ≡ true → new.stopped ≡ true
-  pub unkept : new.unkept ≡ old.unkept
-
-abbrev pub IsAfterTry : Standing → Standing → Result (Unit {0}) NoEpoch → Type 0
-IsAfterTry old new (Ok u) = IsBegun old new
-IsAfterTry old new (Err why) = IsSame old new
+  pub drained : IsDrained old.events
+  pub setup : new.store.setup ≡ old.store.setup
+  pub tables : new.store.tables ≡ old.store.tables
+  pub rows : AreLeft old.store old.events new.store.rows
+  pub events : new.events ≡ []

@@ -1,48 +1,42 @@
--- Where a store stands, and how an epoch follows another.
-use Rattle.std.specs.Prelude.{◌≡◌, ℕ, ℤ, List, [], Some, IsTrue}
-use Rattle.teb_names.specs.declared.Cell.{Cell}
+-- Where the life of a store is, and how an epoch follows another.
+use Rattle.std.specs.Prelude.{◌≡◌, ℕ, ◌+◌, Bool, true, false, []}
 use Rattle.teb_names.specs.declared.Reply.{Reply}
 use Rattle.teb_names.specs.declared.Request.{Request}
 use Rattle.teb_names.specs.declared.Session.{Session}
-use Rattle.teb_names.specs.Rows.{row_of, IsAscending}
-use Rattle.teb_history.specs.declared.Event.{Event}
-use Rattle.teb_history.specs.Phases.{unfinished, aborted, held}
 use Rattle.teb_rules.specs.Answer.{answer}
-use Rattle.teb_rules.specs.Serializes.{final_table}
-use Rattle.teb_rules.specs.Setup.{Store}
+use Rattle.commit_laws.specs.Commits.{commit_count}
+use Rattle.shared_store.specs.Served.{IsBegun, Standing}
 
--- the store that the present epoch began with, its history, and how many of its commits were answered Unsure
+-- the present epoch, how many commits the epochs before it have, and whether the log has failed, after which nothing is asked
 pub record Stage : Type 0 where
-  pub store : Store
-  pub events : List Event
-  pub unsure : ℕ
+  pub standing : Standing
+  pub past : ℕ
+  pub stopped : Bool
 
 -- a store of nothing
 abbrev pub no_stage : Stage
-no_stage = record { store = record { setup = record { types = 0; profiles = []; tree = [] }; tables = 0; rows = [] }; events = []; unsure = 0 }
+no_stage = record { standing = record { store = record { setup = record { types = 0; profiles = []; tree = [] }; tables = 0; rows = [] }; events = [] }; past = 0; stopped = false }
 
--- what the rules answer here, and where the store stands then
+-- where a life begins
+abbrev pub first_stage : Standing → Stage
+first_stage x = record { standing = x; past = 0; stopped = false }
+
+-- what the rules answer here, and where the life is then
 abbrev pub reply_at : Stage → Session → Request → Reply
-reply_at g s q = (answer g.store g.events s q).0
+reply_at g s q = (answer g.standing.store g.standing.events s q).0
 
 abbrev pub asked_at : Stage → Session → Request → Stage
-asked_at g s q = record { store = g.store; events = (answer g.store g.events s q).1; unsure = g.unsure }
+asked_at g s q = record { standing = record { store = g.standing.store; events = (answer g.standing.store g.standing.events s q).1 }; past = g.past; stopped = g.stopped }
 
--- no transaction is unfinished, and no session holds an aborted one
-pub record IsDrained (H : List Event) : Type 0 where
-  pub finished : (t : ℕ) → ¬ IsTrue (unfinished H t)
-  pub told : (s t : ℕ) → held H s ≡ Some t → ¬ IsTrue (aborted H t)
+abbrev pub stopped_at : Stage → Stage
+stopped_at g = record { standing = g.standing; past = g.past; stopped = true }
 
--- these rows, in ascending order of cells, are those of the final table
-pub record AreLeft (X : Store) (H : List Event) (rows : List (Cell × ℤ)) : Type 0 where
-  pub ascending : IsAscending rows
-  pub each : (x : Cell) → row_of rows x ≡ final_table X H x
+-- how many commits the life has so far
+abbrev pub commits_at : Stage → ℕ
+commits_at g = g.past + commit_count g.standing.events
 
--- an epoch that was drained, and the next one: the same tree and tables, with the rows that the first left, and nothing has happened
+-- an epoch that was drained, and the next one
 pub record IsNextEpoch (g h : Stage) : Type 0 where
-  pub drained : IsDrained g.events
-  pub setup : h.store.setup ≡ g.store.setup
-  pub tables : h.store.tables ≡ g.store.tables
-  pub rows : AreLeft g.store g.events h.store.rows
-  pub events : h.events ≡ []
-  pub sure : (g.unsure ≡ 0) × (h.unsure ≡ 0)
+  pub runs : (g.stopped ≡ false) × (h.stopped ≡ false)
+  pub begun : IsBegun g.standing h.standing
+  pub past : h.past ≡ commits_at g

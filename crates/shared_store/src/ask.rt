@@ -1,32 +1,35 @@
 //! A request of a session.
 
-ghost use Rattle.std.specs.Prelude.{◌≡◌, ◌≢◌, ◌↔◌, Err, IfOk, OnOk, IsErrOf};
+ghost use Rattle.std.specs.Prelude.{◌≡◌, ◌≢◌, ◌≤◌, ◌↔◌, Err, IfOk, OnOk, IsErrOf};
 ghost use Rattle.teb_names.specs.declared.Reply.{Reply as TheReply};
 ghost use Rattle.teb_names.specs.declared.Reply.TheVariants as replies;
 ghost use Rattle.shared_store.specs.declared.error.Fault.{Fault as TheFault};
 ghost use Rattle.shared_store.specs.declared.error.StoreError.TheVariants as errors;
 ghost use Rattle.shared_store.specs.declared.reply.StoreReply.TheVariants as store_replies;
-ghost use Rattle.shared_store.specs.Sharing.{base_of, IsAnswered, IsSessionOf, IsUnasked};
+ghost use Rattle.shared_store.specs.Sharing.{base_of, IsAnswered, IsSafe, IsSessionOf, IsUnasked, told};
 
-use crate::error::{Failure, Fault, StoreError};
+use crate::asking::ask_through;
+use crate::error::{Failure, StoreError};
 use crate::reply::StoreReply;
 use crate::server::EpochServer;
 use crate::session::{MOST_ASKS, StoreSession};
 use crate::store::Store;
-use crate::taking::{take_turn, take_turn_to_end};
+use crate::taking::take_turn_to_end;
 use std::alloc::Global;
 use std::sync::Wait;
 use teb_names::{Request, Session};
 
 impl<S: EpochServer> StoreSession<S> {
     /// Asks the store, at the turn of this session, for which it waits. If the epoch is to end and all transactions have finished, it ends
-    /// first, and the request is asked in the next one.
+    /// first, and the request is asked in the next one. A commit is answered once the log keeps it; commits of sessions that wait together
+    /// share its syncs.
     ///
-    /// What the session has seen goes on by this call.
+    /// What the session has seen goes on by this call, and of the commits that the log has told that it keeps there are no fewer.
     ///
     /// # Errors
-    /// `Spent` if the session has had `MOST_ASKS` turns. With `Unasked` and `Spent` nothing was asked. `Unsure` if the disk failed at a
-    /// commit: the call stands in the life of the store, and a crash may keep it or not; nothing is asked from then on.
+    /// `Spent` if the session has asked `MOST_ASKS` times. With `Unasked` and `Spent` nothing was asked. `Unsure` if the log failed before it
+    /// kept a commit: the call is in the life of the store, and a crash may keep it or not. Nothing is asked from then on. It is answered,
+    /// too, once the log has spent its turns at the front, of which it has 2^44.
     pub fn ask<R: Wait>(
         &mut self,
         store: &Store<S>,
@@ -37,6 +40,8 @@ impl<S: EpochServer> StoreSession<S> {
         requires session { IsSessionOf store.now self.old }
         ensures session { IsSessionOf store.now self.new × (self.new.session ≡ self.old.session) }
         ensures answered { IfOk result (λ a. (r : TheReply) → a ≡ store_replies.Reply r → IsAnswered (base_of store.now) self.old self.new request r) }
+        ensures kept { IfOk result (λ a. a ≡ store_replies.Reply replies.Committed → IsSafe (base_of store.now) self.new) }
+        ensures still { told self.old ≤ told self.new }
         ensures put_off { IfOk result (λ a. ((r : TheReply) → a ≢ store_replies.Reply r) → IsUnasked (base_of store.now) self.old self.new) }
         ensures unsure { IsErrOf result errors.Unsure → IsAnswered (base_of store.now) self.old self.new request replies.Committed }
         ensures unasked { (f : TheFault) → IsErrOf result (errors.Unasked f) → IsUnasked (base_of store.now) self.old self.new }
@@ -46,16 +51,15 @@ impl<S: EpochServer> StoreSession<S> {
         if self.asks == MOST_ASKS {
             return Err(StoreError::Spent);
         }
-        let inside = store.door.lock(rt);
-        let answer = take_turn(
+        let answer = ask_through(
             rt,
             alloc,
-            &store.turn,
+            store,
             &mut self.seat,
+            &mut self.log_seat,
             self.session,
             request,
         );
-        drop(inside);
         self.asks += 1;
         match answer {
             Ok(reply) => Ok(reply),
@@ -81,6 +85,7 @@ impl<S: EpochServer> StoreSession<S> {
         requires session { IsSessionOf store.now self.old }
         requires other { other.0 ≢ self.old.session.0 }
         ensures session { IsSessionOf store.now self.new × (self.new.session ≡ self.old.session) }
+        ensures still { told self.new ≡ told self.old }
         ensures ended { OnOk result (IsUnasked (base_of store.now) self.old self.new) }
         ensures unasked { (f : TheFault) → IsErrOf result (errors.Unasked f) → IsUnasked (base_of store.now) self.old self.new }
         ensures spent { IsErrOf result errors.Spent → self.new ≡ self.old }

@@ -3,6 +3,9 @@
 use short_reply::ShortReply;
 use teb_names::{Request, Session};
 
+/// The number that marks have in place of a session's: that of the seat with which the log's turn enters the front turn.
+pub const LOG_SEAT: u8 = 33;
+
 /// An entry in the life of a store.
 #[derive(Clone, Copy, Debug, PartialEq, Eq)]
 pub enum LifeEntry {
@@ -14,8 +17,10 @@ pub enum LifeEntry {
         request: Request,
         reply: Option<ShortReply>,
     },
-    /// An epoch ended, and the next one began, at the turn of this session. Transactions count from 1 again.
-    Turned(Session),
-    /// The entry before this one is a commit that was answered Unsure. It is at the end of the list.
-    Unsure(Session),
+    /// All commits that waited were taken, for the log to write.
+    Taken,
+    /// An epoch ended, and the next one began. Transactions count from 1 again.
+    Turned,
+    /// The log has failed. It is at the end of the list.
+    Stopped,
 }

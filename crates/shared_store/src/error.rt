@@ -5,32 +5,32 @@ use thiserror::Error;
 /// Why nothing was asked.
 #[derive(Clone, Copy, Debug, PartialEq, Eq)]
 pub enum Fault {
-    /// The disk has failed earlier.
+    /// The log has failed earlier.
     Stopped,
     /// The commit, or the rows of the next epoch, do not fit the disk.
     Full,
     OutOfMemory,
 }
 
-/// Why a server gives no reply.
-#[derive(Clone, Copy, Debug, PartialEq, Eq)]
-pub enum Failure {
+/// Why a call has no reply.
+#[derive(Clone, Copy)]
+pub(crate) enum Failure {
     /// Nothing was asked.
     Unasked(Fault),
-    /// The disk failed at a commit: it may keep it or not.
+    /// The log failed before it kept the commit.
     Unsure,
 }
 
 /// Why a session has no reply.
 #[derive(Clone, Copy, Debug, PartialEq, Eq, Error)]
 pub enum StoreError {
-    /// The session has had `MOST_ASKS` turns. Nothing was asked.
+    /// The session has had `MOST_ASKS` calls. Nothing was asked.
     #[error("the session has asked too often")]
     Spent,
     /// Nothing was asked.
     #[error("not asked: {0:?}")]
     Unasked(Fault),
-    /// The disk failed at a commit: it may keep it or not. Nothing is asked any more.
-    #[error("the disk failed at a commit")]
+    /// The log failed before it kept the commit. A crash may keep the commit or not. Nothing is asked any more.
+    #[error("the log failed before it kept the commit")]
     Unsure,
 }

@@ -1,32 +1,49 @@
-//! The value that goes from turn to turn: the server, with the list of its life.
+//! The value that goes from turn to turn at the front: the server, with what proofs know of its life.
 
-ghost use Rattle.std.specs.Prelude.{◌≡◌, ◌≢◌, [], IfOk, IfErr};
-ghost use Rattle.shared_store.specs.Holding.{IsLifeOf};
-ghost use Rattle.shared_store.specs.Lives.{IsShortOf, owner_of};
-ghost use Rattle.shared_store.specs.Served.{stage_of};
-ghost use Rattle.shared_store.specs.Turning.{Adds, AddsMarks, AddsResult};
+ghost use Rattle.std.specs.Prelude.{◌≡◌, ◌≢◌, ◌+◌, ◌<◌, ◌≤◌, [], ◌∷◌, ◌++◌, Bool, true, false, IfOk, IfErr, OnOk};
+ghost use Rattle.commit_laws.specs.Commits.{commit_count};
+ghost use Rattle.teb_names.specs.declared.TheConstants.{SESSIONS};
+ghost use Rattle.shared_store.specs.declared.entry.LifeEntry.TheVariants as entries;
+ghost use Rattle.shared_store.specs.declared.entry.TheConstants.{LOG_SEAT};
+ghost use Rattle.shared_store.specs.Commits.{commits_in};
+ghost use Rattle.shared_store.specs.Ending.{AddsNoCalls, IsKeptAfter, LeadsToServer};
+ghost use Rattle.shared_store.specs.Holding.{IsBrought, IsKept, IsLifeOf, IsWaiting, stage_of};
+ghost use Rattle.shared_store.specs.Lives.{IsShortOf, owner_of, taken_of};
+ghost use Rattle.shared_store.specs.Served.{IsDrained};
+ghost use Rattle.shared_store.specs.Stages.{first_stage};
+ghost use Rattle.shared_store.specs.Turning.{Adds, AddsMarks, AddsResult, GrowsBy, IsNumbered};
 
+use crate::answer::Answer;
 use crate::entry::LifeEntry;
-use crate::error::{Failure, Fault};
+use crate::error::Fault;
 use crate::first::First;
 use crate::origin::Origin;
 use crate::reply::StoreReply;
-use crate::server::{EpochServer, NoEpoch};
+use crate::server::{EpochServer, Obstacle};
+use crate::trace::Trace;
 use short_reply::ShortReply;
 use std::alloc::Global;
 use teb_names::{Reply, Request, SESSIONS, Session};
 use turn_lock::Member;
 
-/// A server with its life: an entry for each request that its history has and for each end of an epoch, in order.
+/// A server with its life: an entry for each request that its history has, for each time that the log took the commits that waited, and for
+/// each end of an epoch, in order. The entries exist in proofs alone.
 #[derive(Drop)]
 pub struct Hosted<S: EpochServer> {
     pub(crate) server: S,
-    pub(crate) entries: Vec<LifeEntry>,
+    pub(crate) entries: Trace<LifeEntry>,
     /// The server as it was at first.
     pub(crate) first: First<S>,
     /// For each session, by its number, how its transaction was ended in its absence.
     pub(crate) notices: Vec<Option<ShortReply>>,
-    ghost life: { IsLifeOf (stage_of 0 (S.standing first.value)) (S.standing server) entries.items },
+    /// How many commits the epochs before this one have.
+    pub(crate) past: u64,
+    /// How many commits the life has.
+    pub(crate) commits: u64,
+    /// True if the log has failed.
+    pub(crate) stopped: bool,
+    ghost life: { IsLifeOf (first_stage (S.standing first.value)) (stage_of past stopped (S.standing server)) commits entries.items },
+    ghost waiting: { ∥ IsWaiting (S.waits server) (first_stage (S.standing first.value)) (stage_of past stopped (S.standing server)) entries.items ∥₁ },
 }
 
 impl<S: EpochServer> Member for Hosted<S> {
@@ -40,16 +57,17 @@ impl<S: EpochServer> Member for Hosted<S> {
 
     ghost note = { λ h i. 0 };
 
-    ghost base = { λ h. stage_of 0 (S.standing h.first.value) };
+    ghost base = { λ h. first_stage (S.standing h.first.value) };
 }
 
 impl<S: EpochServer> Hosted<S> {
-    /// A server with an empty list.
+    /// A server with an empty life.
     ///
     /// # Errors
     /// The server, if memory is out.
     pub(crate) fn new(alloc: Global, server: S) -> Result<Hosted<S>, S>
-        requires { (S.standing server).unkept ≡ 0 }
+        requires fresh { (S.standing server).events ≡ [] }
+        requires waits { ∥ S.waits server [] ∥₁ }
         ensures made { IfOk result (λ h. (h.entries.items ≡ []) × (h.server ≡ server) × (h.first.value ≡ server)) }
         ensures back { IfErr result (λ e. e ≡ server) }
     {
@@ -59,8 +77,11 @@ impl<S: EpochServer> Hosted<S> {
         Ok(Hosted {
             first: First::of(&server),
             server,
-            entries: Vec::new(alloc),
+            entries: Trace::new(),
             notices,
+            past: 0,
+            commits: 0,
+            stopped: false,
         })
     }
 
@@ -72,100 +93,56 @@ impl<S: EpochServer> Hosted<S> {
         server
     }
 
-    /// Answers a request of a session at its turn. It first ends the epoch, if it can be ended and is to be.
-    pub(crate) fn ask(
-        self,
-        alloc: Global,
-        session: Session,
-        request: Request,
-    ) -> (Hosted<S>, Result<StoreReply, Failure>)
-        ensures adds { Adds (stage_of 0 (S.standing self.first.value)) session request result.1 self.entries.items result.0.entries.items }
-        ensures first { result.0.first ≡ self.first }
+    /// Answers a request of a session at its turn. Once the log has failed, nothing is answered.
+    pub(crate) fn ask(&mut self, alloc: Global, session: Session, request: Request) -> Answer
+        ensures adds { Adds (first_stage (S.standing self.old.first.value)) session request result self.old.entries.items self.new.entries.items }
+        ensures number { IsNumbered self.new.commits result }
+        ensures first { self.new.first ≡ self.old.first }
     {
-        let mut hosted = self;
-        if let Some(reply) = hosted.take_notice(session) {
-            return (hosted, Ok(StoreReply::Ended(reply)));
+        if self.stopped {
+            return Answer::Unasked(Fault::Stopped);
         }
-        let (mut hosted, ended) = hosted.end_epoch(alloc, session);
-        if let Err(fault) = ended {
-            return (hosted, Err(Failure::Unasked(fault)));
+        if let Some(reply) = self.take_notice(session) {
+            return Answer::Reply(StoreReply::Ended(reply), self.commits);
         }
-        if matches!(request, Request::Begin(_)) && hosted.server.is_ending() {
-            return (hosted, Ok(StoreReply::Later));
+        match self.ends_epoch(alloc, session) {
+            Ok(true) => return Answer::Ending,
+            Ok(false) => (),
+            Err(fault) => return Answer::Unasked(fault),
         }
-        match hosted.put(alloc, session, session, request) {
-            Ok(reply) => (hosted, Ok(StoreReply::Reply(reply))),
-            Err(failure) => (hosted, Err(failure)),
+        if matches!(request, Request::Begin(_)) && self.server.is_ending() {
+            return Answer::Reply(StoreReply::Later, self.commits);
+        }
+        match self.put(alloc, session, session, request) {
+            Ok(reply) => Answer::Reply(StoreReply::Reply(reply), self.commits),
+            Err(fault) => Answer::Unasked(fault),
         }
     }
 
-    /// Ends the epoch and begins the next one, if it is to end, all transactions have finished, and each other session was told of its
-    /// abort. If only that is missing, the transactions of these sessions are ended.
-    fn end_epoch(self, alloc: Global, by: Session) -> (Hosted<S>, Result<(), Fault>)
-        ensures marks { AddsMarks by.0 self.entries.items result.0.entries.items }
-        ensures first { result.0.first ≡ self.first }
+    /// True if the epoch is to end, and nothing keeps it from its end. If only sessions do that were not told of an abort, other than this
+    /// one, their transactions are ended for them.
+    fn ends_epoch(&mut self, alloc: Global, by: Session) -> Result<bool, Fault>
+        ensures marks { AddsMarks by.0 self.old.entries.items self.new.entries.items }
+        ensures first { self.new.first ≡ self.old.first }
     {
-        let mut hosted = self;
+        if self.stopped || !self.server.is_ending() {
+            return Ok(false);
+        }
         for _ in 0..=SESSIONS {
-            if !hosted.server.is_ending() {
-                return (hosted, Ok(()));
-            }
-            let (next, turned) = hosted.turned(alloc, by);
-            hosted = next;
-            match turned {
-                Ok(()) | Err(NoEpoch::Unfinished) => return (hosted, Ok(())),
-                Err(NoEpoch::Failed(fault)) => return (hosted, Err(fault)),
-                Err(NoEpoch::Untold(session)) => {
+            match self.server.obstacle() {
+                None => return Ok(true),
+                Some(Obstacle::Unfinished) => return Ok(false),
+                Some(Obstacle::Untold(session)) => {
                     if session.0 == by.0 {
-                        return (hosted, Ok(()));
+                        return Ok(false);
                     }
-                    if let Err(fault) = hosted.end_for(alloc, by, session) {
-                        return (hosted, Err(fault));
+                    if let Err(fault) = self.end_for(alloc, by, session) {
+                        return Err(fault);
                     }
                 }
             }
         }
-        (hosted, Ok(()))
-    }
-
-    /// Ends the epoch and begins the next one, and keeps an entry of it, if all transactions have finished.
-    fn turned(self, alloc: Global, by: Session) -> (Hosted<S>, Result<(), NoEpoch>)
-        ensures marks { AddsMarks by.0 self.entries.items result.0.entries.items }
-        ensures first { result.0.first ≡ self.first }
-    {
-        let mut entries = self.entries;
-        let (first, notices) = (self.first, self.notices);
-        if entries.reserve(1).is_err() {
-            let hosted = Hosted {
-                server: self.server,
-                entries,
-                first,
-                notices,
-            };
-            return (hosted, Err(NoEpoch::Failed(Fault::OutOfMemory)));
-        }
-        let (server, turned) = self.server.next_epoch(alloc);
-        match turned {
-            Ok(()) => {
-                entries.push_reserved(LifeEntry::Turned(by));
-                let hosted = Hosted {
-                    server,
-                    entries,
-                    first,
-                    notices,
-                };
-                (hosted, Ok(()))
-            }
-            Err(why) => {
-                let hosted = Hosted {
-                    server,
-                    entries,
-                    first,
-                    notices,
-                };
-                (hosted, Err(why))
-            }
-        }
+        Ok(false)
     }
 
     /// Ends the transaction of another session, which is told at its next turn.
@@ -184,28 +161,31 @@ impl<S: EpochServer> Hosted<S> {
                 self.keep_notice(session, &reply);
                 Ok(())
             }
-            Err(Failure::Unasked(fault)) => Err(fault),
-            Err(Failure::Unsure) => Err(Fault::Stopped),
+            Err(fault) => Err(fault),
         }
     }
 
-    /// Asks the server at the turn of session `by`, and keeps an entry of what its history has.
+    /// Asks the server at the turn of session `by`, and adds an entry of what its history has.
     fn put(
         &mut self,
         alloc: Global,
         by: Session,
         session: Session,
         request: Request,
-    ) -> Result<Reply, Failure>
-        ensures adds { AddsResult (stage_of 0 (S.standing self.old.first.value)) by session request result self.old.entries.items self.new.entries.items }
+    ) -> Result<Reply, Fault>
+        ensures adds { AddsResult (first_stage (S.standing self.old.first.value)) by session request result self.old.entries.items self.new.entries.items }
         ensures first { self.new.first ≡ self.old.first }
     {
-        if self.entries.reserve(2).is_err() {
-            return Err(Failure::Unasked(Fault::OutOfMemory));
+        if self.stopped {
+            return Err(Fault::Stopped);
+        }
+        if self.commits == u64::MAX {
+            return Err(Fault::Full);
         }
         match self.server.serve(alloc, session, request) {
             Ok(reply) => {
-                self.entries.push_reserved(LifeEntry::Asked {
+                self.commits = counted(self.commits, &reply);
+                self.entries.push(LifeEntry::Asked {
                     by,
                     session,
                     request,
@@ -213,23 +193,183 @@ impl<S: EpochServer> Hosted<S> {
                 });
                 Ok(reply)
             }
-            Err(Failure::Unsure) => {
-                self.entries.push_reserved(LifeEntry::Asked {
-                    by,
-                    session,
-                    request,
-                    reply: short_of(&Reply::Committed),
-                });
-                self.entries.push_reserved(LifeEntry::Unsure(by));
-                Err(Failure::Unsure)
-            }
-            Err(failure) => Err(failure),
+            Err(fault) => Err(fault),
         }
+    }
+
+    /// Takes the commits that wait, for the log to write.
+    pub(crate) fn take(&mut self, alloc: Global) -> S::Batch
+        ensures entries { self.new.entries.items ≡ self.old.entries.items ++ entries.Taken ∷ [] }
+        ensures first { self.new.first ≡ self.old.first }
+        ensures same { (S.standing self.new.server ≡ S.standing self.old.server) × (self.new.past ≡ self.old.past) × (self.new.commits ≡ self.old.commits) × (self.new.stopped ≡ self.old.stopped) }
+        ensures waits { ∥ S.waits self.new.server (S.standing self.new.server).events ∥₁ }
+        ensures brought { ∥ IsBrought (S.brings result) (first_stage (S.standing self.old.first.value)) self.new.commits self.old.entries.items self.new.entries.items ∥₁ }
+    {
+        let batch = self.server.take(alloc);
+        self.entries.push(LifeEntry::Taken);
+        batch
+    }
+
+    /// True if the epoch is to end, and nothing keeps it from its end.
+    pub(crate) fn can_end(&self) -> bool
+        ensures drained { result ≡ true → IsDrained (S.standing self.now.server).events × (self.now.stopped ≡ false) }
+    {
+        if self.stopped || !self.server.is_ending() {
+            return false;
+        }
+        match self.server.obstacle() {
+            None => true,
+            Some(_) => false,
+        }
+    }
+
+    /// Keeps that the log has failed, if it has.
+    fn stop_if(&mut self, failed: bool)
+        ensures grows { GrowsBy LOG_SEAT self.old.entries.items self.new.entries.items }
+        ensures taken { taken_of self.new.entries.items ≡ taken_of self.old.entries.items }
+        ensures first { self.new.first ≡ self.old.first }
+    {
+        if failed {
+            self.stop();
+        }
+    }
+
+    /// Writes what waits, and ends the epoch, at the turn of the log's seat. The log keeps the first `total` commits. It returns how many it
+    /// keeps then, and whether it has failed.
+    ///
+    /// # Errors
+    /// The epoch goes on.
+    pub(crate) fn end_epoch(
+        self,
+        alloc: Global,
+        mut log: S::Log,
+        total: u64,
+    ) -> (Hosted<S>, S::Log, u64, bool, Result<(), Fault>)
+        requires drained { IsDrained (S.standing self.server).events }
+        requires runs { self.stopped ≡ false }
+        requires running { S.failed log ≡ false }
+        requires kept { ∥ IsKept (S.keeps log) (first_stage (S.standing self.first.value)) false total self.entries.items ∥₁ }
+        ensures grows { GrowsBy LOG_SEAT self.entries.items result.0.entries.items }
+        ensures first { result.0.first ≡ self.first }
+        ensures kept { ∥ IsKept (S.keeps result.1) (first_stage (S.standing self.first.value)) result.3 result.2 result.0.entries.items ∥₁ }
+        ensures running { S.failed result.1 ≡ result.3 }
+        ensures more { total ≤ result.2 }
+    {
+        let mut hosted = self;
+        let batch = hosted.take(alloc);
+        if let Err(fault) = S::write(&mut log, alloc, batch) {
+            hosted.stop();
+            return (hosted, log, total, true, Err(fault));
+        }
+        let commits = hosted.commits;
+        let (mut hosted, log, begun) = hosted.turned(log, alloc);
+        let failed = S::has_failed(&log);
+        hosted.stop_if(failed);
+        (hosted, log, commits, failed, begun)
+    }
+
+    /// Ends the epoch, of which the log keeps all commits, and begins the next one.
+    ///
+    /// # Errors
+    /// The epoch goes on. The log keeps what it kept; it may have failed.
+    pub(crate) fn turned(self, log: S::Log, alloc: Global) -> (Hosted<S>, S::Log, Result<(), Fault>)
+        requires drained { IsDrained (S.standing self.server).events }
+        requires waits { ∥ S.waits self.server (S.standing self.server).events ∥₁ }
+        requires kept { ∥ S.keeps log (S.standing self.server).store (S.standing self.server).events (commit_count (S.standing self.server).events) ∥₁ }
+        requires running { S.failed log ≡ false }
+        requires runs { self.stopped ≡ false }
+        requires taken { taken_of self.entries.items ≡ self.entries.items }
+        ensures grows { GrowsBy LOG_SEAT self.entries.items result.0.entries.items }
+        ensures first { result.0.first ≡ self.first }
+        ensures same { result.0.commits ≡ self.commits }
+        ensures kept { ∥ IsKept (S.keeps result.1) (first_stage (S.standing self.first.value)) false self.commits result.0.entries.items ∥₁ }
+        ensures running { OnOk result.2 (S.failed result.1 ≡ false) }
+    {
+        let Hosted {
+            server,
+            mut entries,
+            first,
+            notices,
+            past,
+            commits,
+            stopped,
+        } = self;
+        let (server, log, begun) = server.next_epoch(log, alloc);
+        match begun {
+            Ok(()) => {
+                entries.push(LifeEntry::Turned);
+                let hosted = Hosted {
+                    server,
+                    entries,
+                    first,
+                    notices,
+                    past: commits,
+                    commits,
+                    stopped,
+                };
+                (hosted, log, Ok(()))
+            }
+            Err(fault) => {
+                let hosted = Hosted {
+                    server,
+                    entries,
+                    first,
+                    notices,
+                    past,
+                    commits,
+                    stopped,
+                };
+                (hosted, log, Err(fault))
+            }
+        }
+    }
+
+    /// Takes the server out, with the life. It first writes what waits, unless the log has failed. The log keeps the first `total` commits.
+    pub(crate) fn finish(
+        self,
+        alloc: Global,
+        mut log: S::Log,
+        total: u64,
+        failed: bool,
+    ) -> (S, S::Log, Trace<LifeEntry>)
+        requires kept { ∥ IsKept (S.keeps log) (first_stage (S.standing self.first.value)) failed total self.entries.items ∥₁ }
+        requires running { S.failed log ≡ failed }
+        ensures life { LeadsToServer (first_stage (S.standing self.first.value)) (S.standing result.0) result.2.items }
+        ensures more { AddsNoCalls self.entries.items result.2.items }
+        ensures kept { IsKeptAfter (S.keeps result.1) (first_stage (S.standing self.first.value)) (S.failed result.1) total result.2.items }
+        ensures all { S.failed result.1 ≡ false → taken_of result.2.items ≡ result.2.items }
+    {
+        if failed {
+            let Hosted {
+                server,
+                entries,
+                ..
+            } = self;
+            return (server, log, entries);
+        }
+        let mut hosted = self;
+        let batch = hosted.take(alloc);
+        let _written = S::write(&mut log, alloc, batch);
+        let Hosted {
+            server,
+            entries,
+            ..
+        } = hosted;
+        (server, log, entries)
+    }
+
+    /// Keeps that the log has failed. Nothing is asked from then on.
+    pub(crate) fn stop(&mut self)
+        ensures entries { self.new.entries.items ≡ self.old.entries.items ++ entries.Stopped ∷ [] }
+        ensures first { self.new.first ≡ self.old.first }
+    {
+        self.stopped = true;
+        self.entries.push(LifeEntry::Stopped);
     }
 
     /// Keeps how a transaction was ended, if it was, for its session.
     fn keep_notice(&mut self, session: Session, reply: &Reply)
-        ensures same { (self.new.entries ≡ self.old.entries) × (self.new.server ≡ self.old.server) × (self.new.first ≡ self.old.first) }
+        ensures same { (self.new.entries ≡ self.old.entries) × (self.new.server ≡ self.old.server) × (self.new.first ≡ self.old.first) × (self.new.commits ≡ self.old.commits) }
     {
         if let Reply::Aborted(_) = reply {
             if let Some(notice) = self.notices.get_mut(usize::from(session.0)) {
@@ -240,7 +380,7 @@ impl<S: EpochServer> Hosted<S> {
 
     /// Takes what is kept for a session.
     fn take_notice(&mut self, session: Session) -> Option<ShortReply>
-        ensures same { (self.new.entries ≡ self.old.entries) × (self.new.server ≡ self.old.server) × (self.new.first ≡ self.old.first) }
+        ensures same { (self.new.entries ≡ self.old.entries) × (self.new.server ≡ self.old.server) × (self.new.first ≡ self.old.first) × (self.new.commits ≡ self.old.commits) }
     {
         match self.notices.get_mut(usize::from(session.0)) {
             Some(notice) => notice.take(),
@@ -254,4 +394,15 @@ fn short_of(reply: &Reply) -> Option<ShortReply>
     ensures { IsShortOf reply.now result }
 {
     ShortReply::of(reply)
+}
+
+/// How many commits there are with this reply.
+fn counted(commits: u64, reply: &Reply) -> u64
+    requires { commits < u64.MAX }
+    ensures { result ≡ commits + commits_in reply.now }
+{
+    match *reply {
+        Reply::Committed => commits + 1,
+        _ => commits,
+    }
 }

@@ -1,42 +1,79 @@
-//! One store that sessions share, over epochs without end.
+//! One store that sessions share, over epochs without end, whose commits share the syncs of the disk.
 //!
-//! A [`Store`] has an [`EpochServer`], which answers requests as the rules do, each commit kept before it is answered, in epochs of at most 8,192
-//! transactions. Its [`StoreSession`]s ask it, one at a time. When the epoch comes to its end, a Begin is answered
-//! [`StoreReply::Later`]; once all transactions have finished, the next session that asks ends the epoch, and asks in the next one.
+//! It is for many threads that use one store at once. A session that reads or writes never waits for the disk; sessions that commit at the
+//! same time wait for the same two syncs. What a store needs of memory does not grow with its life.
 //!
-//! **What is proved.** All that is asked, and each end of an epoch, stands in one list, the life of the store. The answered calls of each
-//! session stand in it once, in the order in which it made them, each with the reply of the rules at its place. An epoch ends only if no
-//! transaction is unfinished and each session was told of its abort, and the next one begins with the rows that it left. A crash loses
-//! no commit that was answered Committed; after one that was answered Unsure, nothing is asked.
+//! Terms: the *server* ([`EpochServer`]) answers requests as the rules do; the *log* keeps commits; a commit *waits* from when it is answered by
+//! the server until the log takes it; an *epoch* has at most 8,192 transactions; the *life* is the list of all that was asked, over all epochs.
 //!
-//! Threads may share a store, and a session may go to another thread, if the server may (`embedded_shared` is an example).
+//! ```text
+//!      32 sessions                   the front turn                      the log turn
+//!                                    (door: a Mutex)                     (door: a Mutex)
+//!   ask ──────────────────────► ┌────────────────────────┐
+//!   ◄── the reply ───────────── │ server, life            │
+//!                               │ counts commits          │
+//!   a commit, number n ───────► └────────────────────────┘
+//!      │                              ▲  take what waits      ┌──────────────────────────────┐
+//!      │                              └─────────────────────── │ log, a seat at the front     │
+//!      └─────────────────────────── is n ≤ total? ───────────► │ total: how many it keeps     │
+//!   ◄── Committed ────────────────── yes, or write ─────────── │ write: two syncs             │
+//!                                                              └──────────────────────────────┘
+//! ```
 //!
-//! **Not claimed**: that a session ever gets its turn, or that an epoch ends while a session keeps its transaction open. A silent session
-//! can be ended by another, with [`StoreSession::expel`].
+//! 1. A session enters the front turn and is answered. If it has committed, it has the number of its commit in the life.
+//! 2. It waits at the log's door. Inside, if the log keeps that many commits already, it leaves: another session has written them.
+//! 3. Else it takes all commits that wait, with the log's own seat at the front turn, and writes them, while others go on asking.
+//! 4. If the log fails, the front is told, each session whose commit it does not keep is answered [`StoreError::Unsure`], and nothing is asked
+//!    from then on.
+//!
+//! When the epoch comes to its end, a Begin is answered [`StoreReply::Later`]. Once all transactions have finished, the next session that
+//! asks ends the epoch at the log turn: it writes what waits, and begins the next epoch. Then it asks again.
+//!
+//! **What is proved.** All that is asked, each time that the log took what waited, and each end of an epoch, are in one list, the life of the
+//! store. It exists in proofs alone ([`Trace`]). The answered calls of each session are in it once, in the order in which it made them, each
+//! with the reply of the rules at its place. An epoch ends only if no transaction is unfinished and each session was told of its abort, and
+//! the next one begins with the rows that it left. A session is answered Committed only if the log has told it that it keeps at least as many
+//! commits as the life has up to this one, and the log keeps as many as it tells (`IsKept`): a crash leaves them. Nothing is asked after the
+//! log has failed. [`Store::close`] returns a server to which the life leads, and a log that keeps all of it, unless it has failed.
+//!
+//! Threads may share a store, and a session may go to another thread, if the server and the log may (`embedded_shared` is an example).
+//!
+//! **Not claimed**: that a session ever gets its turn, or how many commits share a write; that an epoch ends while a session keeps its
+//! transaction open. A silent session can be ended by another, with [`StoreSession::expel`].
 #![tactic(auto)]
 
+mod answer;
 mod ask;
+mod asking;
 mod close;
 mod entry;
 mod error;
 mod first;
 mod hosted;
-mod life;
+mod keeper;
+mod kept;
 mod make;
 mod origin;
 mod reply;
 mod server;
 mod session;
+mod site;
 mod store;
 mod taking;
+mod trace;
+mod writing;
 
-pub use entry::LifeEntry;
-pub use error::{Failure, Fault, StoreError};
+pub use close::Life;
+pub use entry::{LOG_SEAT, LifeEntry};
+pub use error::{Fault, StoreError};
 pub use first::First;
 pub use hosted::Hosted;
-pub use life::Life;
+pub use keeper::Keeper;
+pub use kept::Kept;
 pub use origin::Origin;
 pub use reply::StoreReply;
-pub use server::{EpochServer, NoEpoch};
-pub use session::{MOST_ASKS, StoreSession};
+pub use server::{EpochServer, Obstacle};
+pub use session::{MOST_ASKS, MOST_TURNS, StoreSession};
+pub use site::Site;
 pub use store::Store;
+pub use trace::Trace;

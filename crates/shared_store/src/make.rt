@@ -1,16 +1,21 @@
 //! How a store is made, with its sessions.
 
-ghost use Rattle.std.specs.Prelude.{◌≡◌, ◌≤◌, [], All, map, IfOk, IfErr, vec_capacity};
+ghost use Rattle.std.specs.Prelude.{◌≡◌, ◌≤◌, [], false, All, map, IfOk, IfErr, Some, vec_capacity};
 ghost use Rattle.teb_history.specs.Phases.{numbers};
-ghost use Rattle.turn_lock.specs.Views.{first_view};
+ghost use Rattle.turn_lock.specs.Views.{first_view, remaining};
 ghost use Rattle.turn_lock.specs.Seats.{base_in, view_of, IsOf, IsOutside};
+ghost use Rattle.shared_store.specs.declared.entry.TheConstants.{LOG_SEAT};
+ghost use Rattle.shared_store.specs.declared.keeper.TheConstants.{LOG_TURNS};
 ghost use Rattle.shared_store.specs.Hosting.{first_of};
-ghost use Rattle.shared_store.specs.Served.{stage_of};
+ghost use Rattle.shared_store.specs.Keeping.{place_of};
+ghost use Rattle.shared_store.specs.Stages.{first_stage};
 ghost use Rattle.shared_store.specs.Sharing.{base_of, IsNewIn, IsNew, number_of};
 
+use crate::entry::LOG_SEAT;
 use crate::hosted::Hosted;
+use crate::keeper::{Keeper, LOG_TURNS};
 use crate::server::EpochServer;
-use crate::session::{MOST_ASKS, StoreSession};
+use crate::session::{MOST_TURNS, StoreSession};
 use crate::store::Store;
 use std::alloc::Global;
 use std::sync::Mutex;
@@ -18,48 +23,79 @@ use teb_names::{SESSIONS, Session};
 use turn_lock::{SeatOf, Turn};
 
 impl<S: EpochServer> Store<S> {
-    /// A store over a server, and the sessions 1 to `SESSIONS`, in order. The life of the store begins where the server stands. The server
-    /// has no commit that a crash may lose, as one that was just opened.
+    /// A store over a server and its log, and the sessions 1 to `SESSIONS`, in order. The life of the store begins where the server is. In
+    /// its epoch nothing has happened, as in one that was just opened.
     ///
     /// # Errors
-    /// The server, as it was, if memory is out.
-    pub fn new(alloc: Global, server: S) -> Result<(Store<S>, Vec<StoreSession<S>>), S>
-        requires kept { (S.standing server).unkept ≡ 0 }
-        ensures base { IfOk result (λ r. base_of r.0 ≡ stage_of 0 (S.standing server)) }
+    /// The server and the log, if memory is out. The log is as it was.
+    pub fn new(
+        alloc: Global,
+        server: S,
+        log: S::Log,
+    ) -> Result<(Store<S>, Vec<StoreSession<S>>), (S, S::Log)>
+        requires fresh { (S.standing server).events ≡ [] }
+        requires waits { ∥ S.waits server [] ∥₁ }
+        requires kept { ∥ S.keeps log (S.standing server).store [] 0 ∥₁ }
+        requires running { S.failed log ≡ false }
+        ensures base { IfOk result (λ r. base_of r.0 ≡ first_stage (S.standing server)) }
         ensures sessions { IfOk result (λ r. All (IsNew r.0) r.1.items) }
         ensures numbers { IfOk result (λ r. map number_of r.1.items ≡ numbers SESSIONS) }
-        ensures back { IfErr result (λ e. e ≡ server) }
+        ensures back { IfErr result (λ e. e.1 ≡ log) }
     {
         let Ok(mut sessions) = Vec::with_capacity(alloc, usize::from(SESSIONS)) else {
-            return Err(server);
+            return Err((server, log));
         };
-        match Turn::new(alloc, Hosted::new(alloc, server)?, 0, SESSIONS) {
-            Ok((turn, seat)) => {
-                deal_sessions(&turn, seat, &mut sessions);
-                let door = Mutex::new(());
-                Ok((Store { turn, door }, sessions))
+        let hosted = match Hosted::new(alloc, server) {
+            Ok(hosted) => hosted,
+            Err(server) => return Err((server, log)),
+        };
+        match Turn::new(alloc, hosted, 0, LOG_SEAT) {
+            Ok((turn, mut seat)) => {
+                let given = turn.split(&mut seat, LOG_SEAT, LOG_TURNS);
+                match Turn::new(alloc, Keeper::new(log, given), 0, SESSIONS) {
+                    Ok((log_turn, log_seat)) => {
+                        deal_sessions(&turn, seat, &log_turn, log_seat, &mut sessions);
+                        let store = Store {
+                            turn,
+                            log_turn,
+                            door: Mutex::new(()),
+                            log_door: Mutex::new(()),
+                        };
+                        Ok((store, sessions))
+                    }
+                    Err(keeper) => {
+                        let (log, given) = keeper.into_parts();
+                        turn.join(&mut seat, given);
+                        Err((turn.end(seat).into_server(), log))
+                    }
+                }
             }
-            Err(hosted) => Err(hosted.into_server()),
+            Err(hosted) => Err((hosted.into_server(), log)),
         }
     }
 }
 
-/// Makes a session of each number out of the first seat.
+/// Makes a session of each number out of two seats.
 fn deal_sessions<S: EpochServer>(
     turn: &Turn<Hosted<S>>,
     mut seat: SeatOf<Hosted<S>>,
+    log_turn: &Turn<Keeper<S>>,
+    mut log_seat: SeatOf<Keeper<S>>,
     sessions: &mut Vec<StoreSession<S>>,
 )
     requires seat { IsOf turn.now seat × IsOutside seat }
-    requires first { view_of seat ≡ first_view (base_in first_of turn.now) 0 SESSIONS }
+    requires first { view_of seat ≡ remaining LOG_SEAT LOG_TURNS (first_view (base_in first_of turn.now) 0 LOG_SEAT) }
+    requires log_seat { IsOf log_turn.now log_seat × IsOutside log_seat }
+    requires log_first { view_of log_seat ≡ first_view (base_in place_of log_turn.now) 0 SESSIONS }
     requires none { sessions.old.items ≡ [] }
     requires room { SESSIONS ≤ vec_capacity sessions.old }
-    ensures sessions { All (IsNewIn turn.now (base_in first_of turn.now)) sessions.new.items }
+    ensures sessions { All (IsNewIn turn.now log_turn.now (base_in first_of turn.now)) sessions.new.items }
     ensures numbers { map number_of sessions.new.items ≡ numbers SESSIONS }
 {
     for number in 1..SESSIONS {
-        let dealt = turn.split(&mut seat, number, MOST_ASKS);
-        sessions.push_reserved(StoreSession::new(Session(number), dealt));
+        let dealt = turn.split(&mut seat, number, MOST_TURNS);
+        let log_dealt = log_turn.split(&mut log_seat, number, MOST_TURNS);
+        sessions.push_reserved(StoreSession::new(Session(number), dealt, log_dealt));
     }
-    sessions.push_reserved(StoreSession::new(Session(SESSIONS), seat));
+    sessions.push_reserved(StoreSession::new(Session(SESSIONS), seat, log_seat));
 }

@@ -1,5 +1,7 @@
 -- How a store goes on to the next epoch.
-use Rattle.std.proofs.Common.{◌≡◌, Result, Ok, Err, ℕ, ◌-◌, true, false, List, [], refl, sym, ◌∙◌, ap, arith}
+use Rattle.std.proofs.Common.{◌≡◌, Result, Ok, Err, ℕ, false, List, [], ◌∷◌, ◌++◌, length, length-append, refl, sym, ◌∙◌, ap, subst, arith}
+use Rattle.std.specs.Prelude.{IfOk, MatchResult}
+use mathlib.Core.Logic.{∥∥₁_map}
 use Rattle.teb_history.specs.declared.Event.{Event}
 use Rattle.teb_rules.specs.Setup.{Store}
 use Rattle.store_setup.specs.declared.Setup.{Setup}
@@ -10,15 +12,19 @@ use Rattle.tree_toml.specs.declared.fault.TreeText.{TreeText}
 use Rattle.engine_core.specs.EngineModel.{EngineModel}
 use Rattle.tree_switch.specs.Starts.{IsStarted}
 use Rattle.tree_switch.specs.Refusals as refusals
+use Rattle.record_journal.specs.Format.{Record}
 use Rattle.commit_laws.specs.Commits.{commit_count}
-use Rattle.epoch_store.specs.Stored.{Stored}
+use Rattle.commit_laws.specs.Records.{records_of}
+use Rattle.epoch_journal.specs.State.{JournalState}
+use Rattle.epoch_store.specs.Queue.{Queue}
+use Rattle.engine_store.specs.Halves.{AreCommitsSince, KeepsCommits}
 use Rattle.engine_store.specs.Next.{MayFollow}
-use Rattle.shared_store.specs.Stages.{IsDrained}
-use Rattle.shared_store.specs.Served.{IsBegun, IsSame}
+use Rattle.engine_store.proofs.Halves.{none_since}
+use Rattle.shared_store.specs.Served.{IsBegun, IsDrained}
 use Rattle.store_server.specs.Standings.{standing_of}
 use Rattle.store_server.specs.Trees.{IsTreeOf}
 
-drained : (H : List Event) → refusals.IsDrained H → IsDrained H
+pub drained : (H : List Event) → refusals.IsDrained H → IsDrained H
 drained H d = record { finished = d.finished; told = λ s t h g. d.told s record { txn = t; holds = h; gone = g } }
 
 abbrev pub view_or : SetupView → Result SetupView TreeText → SetupView
@@ -30,34 +36,64 @@ pub reads_tree : (text : List ℕ) (s : Setup) (X : Store) → setup_of_text tex
 reads_tree text s X read setup tables = λ m other. let same : setup_view s ≡ m = ap (view_or m) (sym read ∙ other) in
     (setup ∙ ap (λ (v : SetupView). (store_of_view v).setup) same, tables ∙ ap (λ (v : SetupView). (store_of_view v).tables) same)
 
-no_commits : (H : List Event) → H ≡ [] → commit_count H ≡ 0
-unfolding commit_count
-no_commits H e = ap commit_count e
-
-pub begins_next : {D : Type 0} (text : List ℕ) (s : Setup) (old new : Stored EngineModel D) → IsTreeOf text old.engine.store → setup_of_text text ≡ Ok (setup_view s) → MayFollow old.engine s.names.tables
-    → IsStarted s old.engine new.engine → old.journal.stopped ≡ false → IsBegun (standing_of old) (standing_of new)
-begins_next text s old new t read may i runs = let same = t (setup_view s) read in record {
-  runs = runs;
-  next = record {
-    drained = drained old.engine.events may.drained;
-    setup = i.setup ∙ sym same.0;
-    tables = i.tables ∙ sym same.1;
-    rows = record { ascending = i.rows.ascending; each = i.rows.each };
-    events = i.events;
-    sure = (refl, refl);
-  };
-  kept = (let z = no_commits new.engine.events i.events in let k : commit_count new.engine.events - new.journal.acknowledged ≡ 0 = omega arith in k);
+-- the next epoch has begun
+pub begins_next : (text : List ℕ) (s : Setup) (old new : EngineModel) → IsTreeOf text old.store → setup_of_text text ≡ Ok (setup_view s) → MayFollow old s.names.tables → IsStarted s old new
+    → IsBegun (standing_of old) (standing_of new)
+begins_next text s old new t read may i = let same = t (setup_view s) read in record {
+  drained = drained old.events may.drained;
+  setup = i.setup ∙ sym same.0;
+  tables = i.tables ∙ sym same.1;
+  rows = record { ascending = i.rows.ascending; each = i.rows.each };
+  events = i.events;
 }
 
--- a store that was handed back
-pub stays_behind : {D : Type 0} (old back : Stored EngineModel D) → back.engine ≡ old.engine → back.journal.acknowledged ≡ old.journal.acknowledged → (old.journal.stopped ≡ true → back.journal.stopped ≡ true) → IsSame (standing_of old) (standing_of back)
-stays_behind old back e a h = record {
-  store = ap (λ (m : EngineModel). m.store) e;
-  events = ap (λ (m : EngineModel). m.events) e;
-  stopped = h;
-  unkept = (λ i. commit_count (e i).events - a i);
-}
+-- none waits if those that wait are the commits since now
+pub none_waits : (X : Store) (H : List Event) (rs : List Record) → ∥ AreCommitsSince X H H rs ∥₁ → rs ≡ []
+none_waits X H [] since = refl
+none_waits X H (r ∷ rs) since = absurd (∥∥₁_rec (λ x y. absurd x) (λ is. too_long (records_of X.setup H) r rs is) since)
+  where
+    too_long : (qs : List Record) (r : Record) (rs : List Record) → qs ≡ qs ++ r ∷ rs → ⊥
+    too_long qs r rs is = omega (arith, ap length is, length-append qs (r ∷ rs))
 
--- of a store in which nothing has happened a crash loses no commit
-pub none_unkept : {D : Type 0} (s : Stored EngineModel D) → s.engine.events ≡ [] → commit_count s.engine.events - s.journal.acknowledged ≡ 0
-none_unkept s e = let z = no_commits s.engine.events e in omega arith
+-- the commits since a history without any
+pub none_since_first : (X : Store) (H : List Event) (rs : List Record) → H ≡ [] → rs ≡ [] → AreCommitsSince X [] H rs
+none_since_first X H rs empty none = subst (λ (G : List Event). AreCommitsSince X [] G rs) (sym empty) (none_since X [] rs none)
+
+-- of a result of this kind
+pub of_ok : {T E : Type 0} (r : Result T E) (v : T) (P : T → Type 0) → r ≡ Ok v → IfOk r P → P v
+of_ok {T} {E} r v P is p = let Q : Result T E → Type 0 = λ x. IfOk x P in subst Q is p
+
+pub of_match : {T E : Type 0} (r : Result T E) (v : T) (P : T → Type 0) (Q : E → Type 0) → r ≡ Ok v → MatchResult r P Q → P v
+of_match {T} {E} r v P Q is p = let R : Result T E → Type 0 = λ x. MatchResult x P Q in subst R is p
+
+module _ {D : Type 0} (seen : D → List ℕ) (may_leave : D → List ℕ → Type 0) where
+  -- a log that keeps no commit
+  pub keeps_none : (X : Store) (H : List Event) (n : ℕ) (j : JournalState D) → H ≡ [] → n ≡ 0 → KeepsCommits seen may_leave X H n j → KeepsCommits seen may_leave X [] 0 j
+  keeps_none X H n j empty zero keeps = subst (λ (x : List Event × ℕ). KeepsCommits seen may_leave X x.0 x.1 j) (λ i. (empty i, zero i)) keeps
+
+  -- the next epoch has begun in both halves
+  pub begins_halves : (text : List ℕ) (s : Setup) (old : EngineModel) (new : Queue EngineModel) (j k : JournalState D) → IsTreeOf text old.store → setup_of_text text ≡ Ok (setup_view s)
+      → MayFollow old s.names.tables → IsStarted s old new.engine
+      → new.waiting ≡ [] → ∥ KeepsCommits seen may_leave old.store old.events (commit_count old.events) j ∥₁
+      → ((n : ℕ) → KeepsCommits seen may_leave old.store old.events n j → KeepsCommits seen may_leave new.engine.store [] 0 k)
+      → k.stopped ≡ false
+      → IsBegun (standing_of old) (standing_of new.engine) × ∥ AreCommitsSince new.engine.store [] new.engine.events new.waiting ∥₁ × ∥ KeepsCommits seen may_leave new.engine.store [] 0 k ∥₁
+      × (k.stopped ≡ false)
+  begins_halves text s old new j k tree read may started none kept next runs = (
+    begins_next text s old new.engine tree read may started,
+    ∣ none_since_first new.engine.store new.engine.events new.waiting started.events none ∣₁,
+    ∥∥₁_map kept (next (commit_count old.events)),
+    runs,
+  )
+
+  -- it has not
+  pub stays_halves : (old back : Queue EngineModel) (j k : JournalState D) → back ≡ old → ∥ AreCommitsSince old.engine.store old.engine.events old.engine.events old.waiting ∥₁
+      → ∥ KeepsCommits seen may_leave old.engine.store old.engine.events (commit_count old.engine.events) j ∥₁
+      → ((n : ℕ) → KeepsCommits seen may_leave old.engine.store old.engine.events n j → KeepsCommits seen may_leave old.engine.store old.engine.events n k)
+      → (standing_of back.engine ≡ standing_of old.engine) × ∥ AreCommitsSince back.engine.store old.engine.events back.engine.events back.waiting ∥₁
+      × ∥ KeepsCommits seen may_leave old.engine.store old.engine.events (commit_count old.engine.events) k ∥₁
+  stays_halves old back j k same taken kept still = (
+    ap (λ (q : Queue EngineModel). standing_of q.engine) same,
+    subst (λ (q : Queue EngineModel). ∥ AreCommitsSince q.engine.store old.engine.events q.engine.events q.waiting ∥₁) (sym same) taken,
+    ∥∥₁_map kept (still (commit_count old.engine.events)),
+  )

@@ -1,3 +1,2 @@
-pub mod Serving
 pub mod Going
 pub mod SharedLives

@@ -1,34 +1,34 @@
--- Where a store in epochs stands, as a shared store sees it.
-use Rattle.std.specs.Prelude.{◌-◌}
+-- Where a store in epochs is, as a shared store sees it, and its errors.
 use Rattle.engine_core.specs.EngineModel.{EngineModel}
-use Rattle.commit_laws.specs.Commits.{commit_count}
-use Rattle.epoch_store.specs.Stored.{Stored}
 use Rattle.epoch_store.specs.declared.error.AskError.{AskError}
 use Rattle.epoch_store.specs.declared.error.AskError.TheVariants as ask
+use Rattle.epoch_store.specs.declared.error.WriteError.{WriteError}
+use Rattle.epoch_store.specs.declared.error.WriteError.TheVariants as write
 use Rattle.engine_store.specs.declared.error.NextError.{NextError}
 use Rattle.engine_store.specs.declared.error.NextError.TheVariants as next
 use Rattle.shared_store.specs.Served.{Standing}
-use Rattle.shared_store.specs.declared.error.Failure.{Failure}
-use Rattle.shared_store.specs.declared.error.Failure.TheVariants.{Unasked, Unsure}
+use Rattle.shared_store.specs.declared.error.Fault.{Fault}
 use Rattle.shared_store.specs.declared.error.Fault.TheVariants.{Stopped, Full, OutOfMemory}
-use Rattle.shared_store.specs.declared.server.NoEpoch.{NoEpoch}
-use Rattle.shared_store.specs.declared.server.NoEpoch.TheVariants.{Unfinished, Untold, Failed}
 
--- the commits that were not acknowledged are those that a crash may lose
-abbrev pub standing_of : {D : Type 0} → Stored EngineModel D → Standing
-standing_of s = record { store = s.engine.store; events = s.engine.events; stopped = s.journal.stopped; unkept = commit_count s.engine.events - s.journal.acknowledged }
+abbrev pub standing_of : EngineModel → Standing
+standing_of e = record { store = e.store; events = e.events }
 
-abbrev pub as_failure : AskError → Failure
-as_failure ask.Stopped = Unasked Stopped
-as_failure ask.Full = Unasked Full
-as_failure ask.OutOfMemory = Unasked OutOfMemory
-as_failure ask.Unsure = Unsure
+abbrev pub as_fault : AskError → Fault
+as_fault ask.Full = Full
+as_fault ask.OutOfMemory = OutOfMemory
+as_fault ask.Stopped = Stopped
+as_fault ask.Unsure = Stopped
 
-abbrev pub why_none : NextError → NoEpoch
-why_none next.Stopped = Failed Stopped
-why_none (next.Again t) = Unfinished
-why_none (next.Untold s) = Untold s
-why_none next.OtherTables = Failed OutOfMemory
-why_none next.Full = Failed Full
-why_none next.DiskFault = Failed Stopped
-why_none next.OutOfMemory = Failed OutOfMemory
+abbrev pub fault_of_write : WriteError → Fault
+fault_of_write write.Full = Full
+fault_of_write write.DiskFault = Stopped
+fault_of_write write.OutOfMemory = OutOfMemory
+
+abbrev pub fault_of_next : NextError → Fault
+fault_of_next next.Stopped = Stopped
+fault_of_next (next.Again t) = OutOfMemory
+fault_of_next (next.Untold s) = OutOfMemory
+fault_of_next next.OtherTables = OutOfMemory
+fault_of_next next.Full = Full
+fault_of_next next.DiskFault = Stopped
+fault_of_next next.OutOfMemory = OutOfMemory

@@ -4,127 +4,174 @@ ghost use Rattle.std.specs.Prelude.{◌≡◌, IfOk, Ok};
 ghost use Rattle.store_setup.specs.SetupView.{setup_view};
 ghost use Rattle.store_setup.specs.Sound.{IsWhole};
 ghost use Rattle.tree_toml.specs.SetupText.{setup_of_text};
-ghost use Rattle.store_server.specs.Standings.{why_none, as_failure, standing_of};
+ghost use Rattle.engine_store.specs.Halves.{AreCommitsSince, KeepsCommits};
+ghost use Rattle.engine_store.specs.Label.{label_of};
+ghost use Rattle.store_server.specs.Standings.{as_fault, fault_of_next, fault_of_write, standing_of};
 ghost use Rattle.store_server.specs.Trees.{IsTreeOf};
-ghost use Rattle.shared_store.specs.Served.{IsAfterTry, IsServed};
 
 use chain_pool::PooledChains;
 use crash_disk::Renew;
-use engine_store::{AskError, EngineStore, NextError, NotNext};
-use shared_store::{EpochServer, Failure, Fault, NoEpoch};
+use engine_core::Engine;
+use engine_store::{AskError, EngineQueue, EngineStore, NextError, WriteError, write_commits};
+use epoch_journal::{EpochJournal, Group};
+use shared_store::{EpochServer, Fault, Obstacle};
 use std::alloc::{AllocError, Global};
+use std::marker::PhantomData;
 use store_setup::Setup;
-use teb_names::{MOST_TXNS, Reply, Request, Session};
+use teb_history::History;
+use teb_names::{MOST_TXNS, Reply, Request, SESSIONS, Session};
 use tree_toml::read_tree;
 
 /// An epoch is to end once less than one part in this many is left of the bytes that it had at its beginning.
 const LEAST_PART: u64 = 8;
 
-/// A store in epochs, all under one tree. An epoch is to end once 8,192 transactions have begun, little of its half of the disk
-/// is left, or a commit did not fit, unless the disk has failed.
+/// The half that answers of a store in epochs, all under one tree. The other half is the journal, which is its log. An epoch is to end once
+/// 8,192 transactions have begun, little of its half of the disk is left, or a commit did not fit.
 #[derive(Drop)]
 pub struct StoreServer<D: Renew> {
-    pub(crate) store: EngineStore<PooledChains, D>,
+    pub(crate) queue: EngineQueue<PooledChains>,
     pub(crate) tree: Vec<u8>,
     /// The epoch is to end once fewer than this many bytes are left.
     reserve: u64,
     /// True if a commit did not fit.
     is_full: bool,
-    ghost under: { IsTreeOf tree.items store.engine.store },
+    disk: PhantomData<D>,
+    ghost under: { IsTreeOf tree.items queue.engine.store },
 }
 
 impl<D: Renew> StoreServer<D> {
-    /// Returns a store with its tree text.
-    pub(crate) fn new(store: EngineStore<PooledChains, D>, tree: Vec<u8>) -> StoreServer<D>
-        requires tree { IsTreeOf tree.items store.engine.store }
-        ensures { result.store ≡ store }
+    /// Returns the half that answers, with its tree text.
+    pub(crate) fn new(queue: EngineQueue<PooledChains>, tree: Vec<u8>) -> StoreServer<D>
+        requires tree { IsTreeOf tree.items queue.engine.store }
+        ensures { result.queue ≡ queue }
     {
         StoreServer {
-            reserve: store.left() / LEAST_PART,
-            store,
+            reserve: queue.left() / LEAST_PART,
+            queue,
             tree,
             is_full: false,
+            disk: PhantomData,
         }
     }
 
-    /// Returns the store.
-    pub fn store(&self) -> &EngineStore<PooledChains, D>
-        ensures { result.now ≡ self.now.store }
+    /// Returns the engine of the present epoch.
+    pub fn engine(&self) -> &Engine<PooledChains>
+        ensures { result.now ≡ self.now.queue.engine }
     {
-        &self.store
+        self.queue.engine()
     }
 
-    /// Returns the store, unchanged.
-    pub fn into_store(self) -> EngineStore<PooledChains, D>
-        ensures { result ≡ self.store }
+    /// Returns the store of both halves.
+    pub fn into_store(self, log: EpochJournal<D>) -> EngineStore<PooledChains, D>
+        requires kept { KeepsCommits D.seen D.may_leave self.queue.engine.store self.queue.engine.events log.acknowledged log }
+        requires label { log.layout.label ≡ label_of self.queue.engine.names.tables }
+        ensures { (result.engine ≡ self.queue.engine) × (result.journal ≡ log) }
     {
-        let StoreServer { store, .. } = self;
-        store
-    }
-
-    /// Returns the store in the next epoch, or in this one, with the reason why there is no next one.
-    fn turned(self, alloc: Global) -> (StoreServer<D>, Result<(), NoEpoch>)
-        ensures { IsAfterTry (standing_of self.store) (standing_of result.0.store) result.1 }
-    {
-        let Ok(setup) = setup_of(alloc, &self.tree) else {
-            return (self, Err(NoEpoch::Failed(Fault::OutOfMemory)));
-        };
-        let StoreServer {
-            store,
-            tree,
-            reserve,
-            is_full,
-        } = self;
-        match store.next_epoch(alloc, setup, PooledChains::new(alloc)) {
-            Ok((store, _past)) => (StoreServer::new(store, tree), Ok(())),
-            Err(NotNext { store, why }) => {
-                let server = StoreServer {
-                    store,
-                    tree,
-                    reserve,
-                    is_full,
-                };
-                (server, Err(why_not(why)))
-            }
-        }
+        let StoreServer { queue, .. } = self;
+        EngineStore::join(queue, log)
     }
 }
 
 impl<D: Renew> EpochServer for StoreServer<D> {
-    ghost standing = { λ s. standing_of s.store };
+    type Log = EpochJournal<D>;
 
-    fn serve(
-        &mut self,
-        alloc: Global,
-        session: Session,
-        request: Request,
-    ) -> Result<Reply, Failure> {
-        match self.store.ask(alloc, session, request) {
+    type Batch = Group;
+
+    ghost standing = { λ s. standing_of s.queue.engine };
+
+    ghost waits = { λ s H. AreCommitsSince s.queue.engine.store H s.queue.engine.events s.queue.waiting };
+
+    ghost brings = { λ batch X H G. AreCommitsSince X H G batch.records };
+
+    ghost keeps = { λ log X H n. KeepsCommits D.seen D.may_leave X H n log };
+
+    ghost failed = { λ log. log.stopped };
+
+    fn serve(&mut self, alloc: Global, session: Session, request: Request) -> Result<Reply, Fault> {
+        match self.queue.ask(alloc, session, request) {
             Ok(reply) => Ok(reply),
             Err(error) => {
                 self.is_full = self.is_full || matches!(error, AskError::Full);
-                Err(failure_of(error))
+                Err(fault_of(error))
             }
         }
     }
 
     fn is_ending(&self) -> bool {
-        // A store that is stopped has no next epoch, so nobody is to wait for one.
-        !self.store.is_stopped()
-            && (self.is_full
-                || self.store.left() < self.reserve
-                || MOST_TXNS <= self.store.engine().history().begun())
+        self.is_full
+            || self.queue.left() < self.reserve
+            || MOST_TXNS <= self.queue.engine().history().begun()
     }
 
-    fn next_epoch(self, alloc: Global) -> (Self, Result<(), NoEpoch>) {
-        let history = self.store.engine().history();
-        for t in history.live() {
-            if history.is_unfinished(*t) {
-                return (self, Err(NoEpoch::Unfinished));
+    fn obstacle(&self) -> Option<Obstacle> {
+        if self.queue.is_drained() {
+            return None;
+        }
+        Some(obstacle_in(self.queue.engine().history()))
+    }
+
+    fn take(&mut self, alloc: Global) -> Group {
+        self.queue.take(alloc)
+    }
+
+    fn write(log: &mut EpochJournal<D>, alloc: Global, batch: Group) -> Result<(), Fault> {
+        match write_commits(alloc, log, &batch) {
+            Ok(()) => Ok(()),
+            Err(error) => Err(unwritten(error)),
+        }
+    }
+
+    fn has_failed(log: &EpochJournal<D>) -> bool {
+        log.is_stopped()
+    }
+
+    fn next_epoch(
+        self,
+        log: EpochJournal<D>,
+        alloc: Global,
+    ) -> (Self, EpochJournal<D>, Result<(), Fault>) {
+        let Ok(setup) = setup_of(alloc, &self.tree) else {
+            return (self, log, Err(Fault::OutOfMemory));
+        };
+        let StoreServer {
+            queue,
+            tree,
+            reserve,
+            is_full,
+            disk,
+        } = self;
+        let (queue, log, begun) = queue.next_epoch(alloc, log, setup, PooledChains::new(alloc));
+        match begun {
+            Ok(_past) => (StoreServer::new(queue, tree), log, Ok(())),
+            Err(why) => {
+                let server = StoreServer {
+                    queue,
+                    tree,
+                    reserve,
+                    is_full,
+                    disk,
+                };
+                (server, log, Err(not_begun(why)))
             }
         }
-        self.turned(alloc)
     }
+}
+
+/// Returns what keeps an epoch from its end, if it is not drained.
+fn obstacle_in(history: &History) -> Obstacle {
+    for t in history.live() {
+        if history.is_unfinished(*t) {
+            return Obstacle::Unfinished;
+        }
+    }
+    // Each live transaction was aborted, and its session was not told of it.
+    for i in 0..SESSIONS {
+        let session = Session(i + 1);
+        if history.held(session).is_some() {
+            return Obstacle::Untold(session);
+        }
+    }
+    Obstacle::Unfinished
 }
 
 /// Returns the setup of a tree text that was read before. It is read again, since an epoch takes its setup.
@@ -141,25 +188,37 @@ fn setup_of(alloc: Global, tree: &[u8]) -> Result<Setup, AllocError>
     }
 }
 
-fn failure_of(error: AskError) -> Failure
-    ensures { result ≡ as_failure error }
+fn fault_of(error: AskError) -> Fault
+    ensures { result ≡ as_fault error }
 {
     match error {
-        AskError::Stopped => Failure::Unasked(Fault::Stopped),
-        AskError::Full => Failure::Unasked(Fault::Full),
-        AskError::OutOfMemory => Failure::Unasked(Fault::OutOfMemory),
-        AskError::Unsure => Failure::Unsure,
+        AskError::Full => Fault::Full,
+        AskError::OutOfMemory => Fault::OutOfMemory,
+        // A queue does not answer these.
+        AskError::Stopped | AskError::Unsure => Fault::Stopped,
     }
 }
 
-fn why_not(why: NextError) -> NoEpoch
-    ensures { result ≡ why_none why }
+fn unwritten(error: WriteError) -> Fault
+    ensures { result ≡ fault_of_write error }
+{
+    match error {
+        WriteError::Full => Fault::Full,
+        WriteError::DiskFault => Fault::Stopped,
+        WriteError::OutOfMemory => Fault::OutOfMemory,
+    }
+}
+
+fn not_begun(why: NextError) -> Fault
+    ensures { result ≡ fault_of_next why }
 {
     match why {
-        NextError::Again(_) => NoEpoch::Unfinished,
-        NextError::Untold(session) => NoEpoch::Untold(session),
-        NextError::Stopped | NextError::DiskFault => NoEpoch::Failed(Fault::Stopped),
-        NextError::Full => NoEpoch::Failed(Fault::Full),
-        NextError::OtherTables | NextError::OutOfMemory => NoEpoch::Failed(Fault::OutOfMemory),
+        NextError::Stopped | NextError::DiskFault => Fault::Stopped,
+        NextError::Full => Fault::Full,
+        // The server is drained, and its tree has its tables.
+        NextError::Again(_)
+        | NextError::Untold(_)
+        | NextError::OtherTables
+        | NextError::OutOfMemory => Fault::OutOfMemory,
     }
 }

@@ -2,7 +2,7 @@
 
 use crate::life::{CELL, TrialStore, open, value};
 use crash_disk::MemDisk;
-use engine_store::EngineGroup;
+use engine_store::{EngineGroup, EngineQueue, write_commits};
 use epoch_store::AskError;
 use std::alloc::Global;
 use std::ops::RangeInclusive;
@@ -29,19 +29,32 @@ struct Left {
     acknowledged: i64,
 }
 
+/// What begins a transaction.
+const BEGIN: Request = Request::Begin(Spot {
+    kind: Kind(0),
+    instance: 0,
+});
+
 /// Asks for a transaction that writes a value, and for its commit.
 fn commit(
     alloc: Global,
     group: &mut EngineGroup<PlainChains, MemDisk>,
     value: i64,
 ) -> Result<Reply, AskError> {
-    let begin = Request::Begin(Spot {
-        kind: Kind(0),
-        instance: 0,
-    });
-    let _ = group.ask(alloc, Session(1), begin)?;
+    let _ = group.ask(alloc, Session(1), BEGIN)?;
     let _ = group.ask(alloc, Session(1), Request::Write(CELL, value))?;
     group.ask(alloc, Session(1), Request::Commit)
+}
+
+/// Asks the half of a store that answers for a transaction that writes a value, and for its commit.
+fn commit_in(
+    alloc: Global,
+    queue: &mut EngineQueue<PlainChains>,
+    value: i64,
+) -> Result<Reply, AskError> {
+    let _ = queue.ask(alloc, Session(1), BEGIN)?;
+    let _ = queue.ask(alloc, Session(1), Request::Write(CELL, value))?;
+    queue.ask(alloc, Session(1), Request::Commit)
 }
 
 /// Commits these values together, and answers how many commits waited, and whether they are acknowledged.
@@ -95,7 +108,7 @@ fn live(alloc: Global, stop: u32) -> Result<Left, Fail> {
     })
 }
 
-/// The value that an opening finds on a disk; 0 if there is none.
+/// Returns the value that an opening finds on a disk; 0 if there is none.
 fn find(alloc: Global, disk: MemDisk) -> Result<i64, Fail> {
     let Ok(mut store) = open(alloc, disk)? else {
         return Err(Fail::from("not opened"));
@@ -103,7 +116,7 @@ fn find(alloc: Global, disk: MemDisk) -> Result<i64, Fail> {
     Ok(value(alloc, &mut store)?.unwrap_or(0))
 }
 
-/// Whether a crash may leave this value: none of the group or all of it, and all that was acknowledged.
+/// Returns true if a crash may leave this value: none of the group or all of it, and all that was acknowledged.
 fn is_prefix(found: i64, acknowledged: i64) -> bool {
     acknowledged <= found && (found <= 1 || found == LAST)
 }
@@ -137,7 +150,7 @@ fn a_crash_at_any_call_leaves_a_prefix(rt: HostRuntime) -> Result<(), Fail> {
     Ok(())
 }
 
-/// A disk with the bytes of a write of which the first `len` bytes of the disk were reached.
+/// Returns a disk with the bytes of a write of which the first `len` bytes of the disk were reached.
 fn torn(alloc: Global, before: &[u8], after: &[u8], len: usize) -> Result<MemDisk, Fail> {
     let mut bytes = Vec::new(alloc);
     bytes.extend_from_slice(&after[..len.min(after.len())])?;
@@ -180,5 +193,27 @@ fn a_group_has_the_bytes_of_its_commits_one_by_one(rt: HostRuntime) -> Result<()
     }
     let together = live(alloc, 0)?;
     assert_eq!(rt; store.disk().bytes(), together.disk.bytes());
+    Ok(())
+}
+
+#[test]
+fn two_halves_write_the_bytes_of_a_group(rt: HostRuntime) -> Result<(), Fail> {
+    let alloc = rt.alloc();
+    let Ok(store) = open(alloc, MemDisk::with_capacity(alloc, CAPACITY, 0))? else {
+        return Err(Fail::from("not opened"));
+    };
+    let (mut queue, mut journal) = store.split(alloc);
+    for value in 1..=LAST {
+        assert_eq!(rt; commit_in(alloc, &mut queue, value), Ok(Reply::Committed));
+        if value == 1 || value == LAST {
+            if journal.is_stopped() {
+                return Err(Fail::from("stopped"));
+            }
+            let commits = queue.take(alloc);
+            assert!(rt; write_commits(alloc, &mut journal, &commits).is_ok());
+        }
+    }
+    let together = live(alloc, 0)?;
+    assert_eq!(rt; journal.disk().bytes(), together.disk.bytes());
     Ok(())
 }

@@ -33,7 +33,16 @@ returns-in-Ok-recover-clause-recovered g c =
     let e = c.in-Ok-recover.ensures in
     let was = subst (λ (x : List ℕ × List (Cell × ℤ)). IsRecovered d.seen d.may_leave d.moment d.left_since d.faults d.capacity (layout (d.capacity disk) x.0) (row_of x.1) disk mid)
     (λ i. ((c.deref.ensures.value ∙ c.in-Ok.ensures) i, c.rows.ensures.rows i))
-    (record { quiet = e.quiet.0; durable = e.quiet.1; layout = e.layout; current = e.current; has = record { list = e.read.0; read = e.read.1; table = e.read.2 }; ascending = e.ascending; found = e.found; found_on = e.found_on }) in
+    (record {
+      quiet = e.quiet.0;
+      durable = e.quiet.1;
+      layout = e.layout;
+      current = e.current;
+      has = record { list = e.read.0; read = e.read.1; table = e.read.2 };
+      ascending = e.ascending;
+      found = e.found;
+      found_on = e.found_on;
+    }) in
     if_ok_one c.check_rows.result
     (λ o. (o ≡ mid) × AreOfTables c.len.result o.rows)
     (λ o. IsRecovered d.seen d.may_leave d.moment d.left_since d.faults d.capacity l start disk o)
@@ -52,7 +61,16 @@ returns-in-Ok-recover-clause-refused g c =
     let e = c.in-Ok-recover.ensures in
     let was = subst (λ (x : List ℕ × List (Cell × ℤ)). IsRecovered d.seen d.may_leave d.moment d.left_since d.faults d.capacity (layout (d.capacity disk) x.0) (row_of x.1) disk mid)
     (λ i. ((c.deref.ensures.value ∙ c.in-Ok.ensures) i, c.rows.ensures.rows i))
-    (record { quiet = e.quiet.0; durable = e.quiet.1; layout = e.layout; current = e.current; has = record { list = e.read.0; read = e.read.1; table = e.read.2 }; ascending = e.ascending; found = e.found; found_on = e.found_on }) in
+    (record {
+      quiet = e.quiet.0;
+      durable = e.quiet.1;
+      layout = e.layout;
+      current = e.current;
+      has = record { list = e.read.0; read = e.read.1; table = e.read.2 };
+      ascending = e.ascending;
+      found = e.found;
+      found_on = e.found_on;
+    }) in
     if_err c.check_rows.result
     (λ back. (back.disk ≡ mid.disk) × HasRowOutside c.len.result (row_of mid.rows) × (back.why ≡ store.Damaged (half_found_at mid.layout.capacity mid.current)))
     (λ back. IsRefused d.seen d.may_leave d.moment d.left_since d.faults d.capacity l start n disk back.disk back.why)

@@ -19,7 +19,8 @@ returns-in_err-switch_halves-clause-any_moment g c label rs r piece at only =
     let l = layout c.args.capacity label in
     let settled = c.in_ok-first.ensures.settled label rs at only in
     and_then d.moment d.left_since c.args.disk.now c.settle.new.disk c.switch_halves.new.disk (HasRecords l rs) (IsEither l c.in_ok-first.first rs r) (HasOneOf l rs (r ∷ []))
-    (c.settle.ensures.any_moment label rs at only) (c.switch_halves.ensures.any_moment label rs r piece settled.0 settled.1) (λ image so. inl so) (λ image so. either_has l c.in_ok-first.first rs r image so)
+    (c.settle.ensures.any_moment label rs at only) (c.switch_halves.ensures.any_moment label rs r piece settled.0 settled.1) (λ image so. inl so)
+    (λ image so. either_has l c.in_ok-first.first rs r image so)
 
 pub returns-clause-any_moment : goal.returns-clause-any_moment
 returns-clause-any_moment g c label rs r piece at only =
@@ -27,7 +28,8 @@ returns-clause-any_moment g c label rs r piece at only =
     let l = layout c.args.capacity label in
     let settled = c.in_ok-first.ensures.settled label rs at only in
     and_then d.moment d.left_since c.args.disk.now c.settle.new.disk c.switch_halves.new.disk (HasRecords l rs) (IsEither l c.in_ok-first.first rs r) (HasOneOf l rs (r ∷ []))
-    (c.settle.ensures.any_moment label rs at only) (c.switch_halves.ensures.any_moment label rs r piece settled.0 settled.1) (λ image so. inl so) (λ image so. either_has l c.in_ok-first.first rs r image so)
+    (c.settle.ensures.any_moment label rs at only) (c.switch_halves.ensures.any_moment label rs r piece settled.0 settled.1) (λ image so. inl so)
+    (λ image so. either_has l c.in_ok-first.first rs r image so)
 
 pub returns-clause-switched : goal.returns-clause-switched
 returns-clause-switched g c label rs r piece at only =

@@ -51,7 +51,8 @@ returns-clause-settled g c label short only =
     let l = layout c.args.capacity label in
     let f = d.seen c.args.disk.now in
     let mid = d.seen c.write_safely.new.disk in (
-      fronted l [] f refl short mid c.args.front_bytes.now c.write_safely.ensures.torn c.requires.front (d.seen c.write_safely-2.new.disk) c.in_ok-write_safely.ensures.written c.write_safely-2.ensures.torn c.in_ok-write_safely-2.ensures.written,
+      fronted l [] f refl short mid c.args.front_bytes.now c.write_safely.ensures.torn c.requires.front (d.seen c.write_safely-2.new.disk) c.in_ok-write_safely.ensures.written
+          c.write_safely-2.ensures.torn c.in_ok-write_safely-2.ensures.written,
       c.in_ok-write_safely-2.ensures.durable,
     )
 

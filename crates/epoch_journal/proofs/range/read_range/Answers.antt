@@ -7,4 +7,5 @@ returns-clause-bytes g c =
     let n = length c.deref_mut.result.now in
     let same : c.in_ok-bytes.bytes.len ≡ n = search rules in
     let count : n ≡ c.args.count = search rules in
-    range_is (drop c.args.at (g.D.Disk.seen c.args.disk.now)) c.fill.new.buf _ n c.in_ok-bytes.bytes.len c.args.count c.in_ok-fill.ensures.filled count same (omega (arith, count, c.requires.within, length-drop c.args.at (g.D.Disk.seen c.args.disk.now)))
+    range_is (drop c.args.at (g.D.Disk.seen c.args.disk.now)) c.fill.new.buf _ n c.in_ok-bytes.bytes.len c.args.count c.in_ok-fill.ensures.filled count same
+    (omega (arith, count, c.requires.within, length-drop c.args.at (g.D.Disk.seen c.args.disk.now)))

@@ -95,7 +95,8 @@ returns-in-Ok-read_on-clause-records g c =
     let same = c.check_label.ensures.quiet.same in
     let rs = record_lists c.in-Ok-read_on.records.items in
     let whole = subst (λ (f : List ℕ). reading 0 at (take (until - at) (drop at f)) ≡ Whole rs) same c.in-Ok-read_on.ensures.whole in
-    read_as l file first cur.0 cur.1 cur.2 base c.min-most.result size n (take n (drop base file)) base_is in_side is_most size_is fits_too refl refl c.in-Ok.ensures.header.1 rs at until refl refl whole
+    read_as l file first cur.0 cur.1 cur.2 base c.min-most.result size n (take n (drop base file)) base_is in_side is_most size_is fits_too refl refl c.in-Ok.ensures.header.1 rs at until refl refl
+    whole
 
 pub returns-in-Err-read_on-clause-damaged : goal.returns-in-Err-read_on-clause-damaged
 returns-in-Err-read_on-clause-damaged g c place is =
@@ -124,7 +125,8 @@ returns-in-Err-read_on-clause-damaged g c place is =
     let was : c.from.result ≡ errors.Damaged place = cc is in
     let e = damaged_as c.in-Err-read_on.error place (sym c.from.ensures ∙ was) in
     let bad = subst (λ (f : List ℕ). reading 0 at (take (until - at) (drop at f)) ≡ Damaged place) same (c.in-Err-read_on.ensures.damaged place (ap Err e)) in
-    read_damaged l file first cur.0 cur.1 cur.2 base c.min-most.result size n (take n (drop base file)) base_is in_side is_most size_is fits_too refl refl c.in-Ok.ensures.header.1 place at until refl refl bad
+    read_damaged l file first cur.0 cur.1 cur.2 base c.min-most.result size n (take n (drop base file)) base_is in_side is_most size_is fits_too refl refl c.in-Ok.ensures.header.1 place at until refl
+    refl bad
 
 pub returns-in-Err-read_on-clause-other_label : goal.returns-in-Err-read_on-clause-other_label
 returns-in-Err-read_on-clause-other_label g c is =

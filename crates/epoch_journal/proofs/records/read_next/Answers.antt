@@ -106,6 +106,7 @@ returns-clause-record_calls g c =
     let size = c.body_size-size.result in
     let body_is = c.deref-3.ensures.value ∙ c.in_ok-body.ensures.bytes ∙ ap (λ (f : List ℕ). take size (drop (at + 1) f)) c.read_range.ensures.quiet.same in
     let found = rw c.in-Some.is at c.in_ok-record.ensures.record in
-    let count = good_count file front at until c.min.result few read le whole marked.0 marked.1 four c.deref-3.result.now size (at + 1) is_size c.if-size-most.false refl body_is c.in-Some.record.items found in
+    let count = good_count file front at until c.min.result few read le whole marked.0 marked.1 four c.deref-3.result.now size (at + 1) is_size c.if-size-most.false refl body_is c.in-Some.record.items
+    found in
     let both = up_to_then c.min.result 0 size 0 _ _ _ c.read_range.ensures.calls c.read_range-2.ensures.calls in
     record { made = omega (arith, both.made, few, is_size, count); written = omega (arith, both.written); promise = both.promise }

@@ -8,7 +8,8 @@ use Rattle.epoch_journal.proofs.records.read_on.Given as goal
 
 abbrev pub invariant-loop-records : goal.invariant-loop-records
 invariant-loop-records g l = record {
-  so_far : push_all (record_lists l.records.items) (reading 0 l.place (take (l.until - l.place) (drop l.place (g.D.Disk.seen l.fn.disk)))) ≡ reading 0 l.at (take (l.until - l.at) (drop l.at (g.D.Disk.seen l.fn.disk)));
+  so_far : push_all (record_lists l.records.items) (reading 0 l.place (take (l.until - l.place) (drop l.place (g.D.Disk.seen l.fn.disk)))) ≡ reading 0 l.at
+      (take (l.until - l.at) (drop l.at (g.D.Disk.seen l.fn.disk)));
   from : l.at ≤ l.place;
   within : l.place ≤ l.until;
   quiet : IsQuiet g.D.Disk.seen g.D.Disk.may_leave g.D.Disk.moment g.D.Disk.left_since g.D.Disk.faults g.D.Disk.capacity l.fn.disk l.disk;

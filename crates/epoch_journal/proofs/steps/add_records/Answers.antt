@@ -33,7 +33,8 @@ returns-in_err-write_safely-2-clause-any_moment g c label rs more added resting 
     (c.write_safely.ensures.any_moment only)
     (c.write_safely-2.ensures.any_moment c.in_ok-write_safely.ensures.durable)
     (λ image torn. behind l c.args.first rs more c.args.end c.args.bodies.now f added c.requires.some resting c.requires.room p image (omega (arith, c.base.ensures.value)) torn)
-    (λ image torn. at_mark l c.args.first rs more c.args.end c.args.bodies.now f added c.requires.some resting c.requires.room p mid (omega (arith, c.base.ensures.value)) c.write_safely.ensures.torn c.in_ok-write_safely.ensures.written q image (omega (arith, c.base.ensures.value)) torn)
+    (λ image torn. at_mark l c.args.first rs more c.args.end c.args.bodies.now f added c.requires.some resting c.requires.room p mid (omega (arith, c.base.ensures.value)) c.write_safely.ensures.torn
+    c.in_ok-write_safely.ensures.written q image (omega (arith, c.base.ensures.value)) torn)
 
 pub returns-clause-any_moment : goal.returns-clause-any_moment
 returns-clause-any_moment g c label rs more added resting only =
@@ -48,7 +49,8 @@ returns-clause-any_moment g c label rs more added resting only =
     (c.write_safely.ensures.any_moment only)
     (c.write_safely-2.ensures.any_moment c.in_ok-write_safely.ensures.durable)
     (λ image torn. behind l c.args.first rs more c.args.end c.args.bodies.now f added c.requires.some resting c.requires.room p image (omega (arith, c.base.ensures.value)) torn)
-    (λ image torn. at_mark l c.args.first rs more c.args.end c.args.bodies.now f added c.requires.some resting c.requires.room p mid (omega (arith, c.base.ensures.value)) c.write_safely.ensures.torn c.in_ok-write_safely.ensures.written q image (omega (arith, c.base.ensures.value)) torn)
+    (λ image torn. at_mark l c.args.first rs more c.args.end c.args.bodies.now f added c.requires.some resting c.requires.room p mid (omega (arith, c.base.ensures.value)) c.write_safely.ensures.torn
+    c.in_ok-write_safely.ensures.written q image (omega (arith, c.base.ensures.value)) torn)
 
 pub returns-clause-added : goal.returns-clause-added
 returns-clause-added g c label rs more added resting only =
@@ -58,7 +60,8 @@ returns-clause-added g c label rs more added resting only =
     let mid = d.seen c.write_safely.new.disk in
     let p = c.base.result + c.args.end + 1 in
     let q = c.base.result + c.args.end in (
-      rests l c.args.first rs more c.args.end c.args.bodies.now f added c.requires.some resting c.requires.room p mid (omega (arith, c.base.ensures.value)) c.write_safely.ensures.torn c.in_ok-write_safely.ensures.written q (d.seen c.write_safely-2.new.disk) (omega (arith, c.base.ensures.value)) c.write_safely-2.ensures.torn c.in_ok-write_safely-2.ensures.written,
+      rests l c.args.first rs more c.args.end c.args.bodies.now f added c.requires.some resting c.requires.room p mid (omega (arith, c.base.ensures.value)) c.write_safely.ensures.torn
+          c.in_ok-write_safely.ensures.written q (d.seen c.write_safely-2.new.disk) (omega (arith, c.base.ensures.value)) c.write_safely-2.ensures.torn c.in_ok-write_safely-2.ensures.written,
       c.in_ok-write_safely-2.ensures.durable,
     )
 
@@ -72,7 +75,13 @@ pub write_safely-requires : goal.write_safely-requires
 write_safely-requires g c = omega (arith, both_fit c.args.capacity c.args.first (c.args.end + 1 + length c.args.bodies.now) (omega arith) c.requires.room, c.base.ensures.value, c.requires.small)
 
 pub write_safely-requires-2 : goal.write_safely-requires-2
-write_safely-requires-2 g c = omega (arith, both_fit c.args.capacity c.args.first (c.args.end + 1 + length c.args.bodies.now) (omega arith) c.requires.room, c.base.ensures.value, c.requires.small, c.write_safely.ensures.stays)
+write_safely-requires-2 g c = omega (
+  arith,
+  both_fit c.args.capacity c.args.first (c.args.end + 1 + length c.args.bodies.now) (omega arith) c.requires.room,
+  c.base.ensures.value,
+  c.requires.small,
+  c.write_safely.ensures.stays,
+)
 
 pub returns-in_err-write_safely-clause-memory : goal.returns-in_err-write_safely-clause-memory
 returns-in_err-write_safely-clause-memory g c =
@@ -84,10 +93,12 @@ pub returns-in_err-write_safely-2-clause-memory : goal.returns-in_err-write_safe
 returns-in_err-write_safely-2-clause-memory g c =
     let n = length c.args.bodies.now in
     let q = c.base.result + c.args.end in
-    uses_then 2 n (q + 1 + n) 2 1 (q + 1) 4 (n + 1) _ _ _ _ _ _ _ (omega arith) (omega arith) (omega (arith, c.base.ensures.value)) (omega (arith, c.base.ensures.value)) c.write_safely.ensures.memory c.write_safely-2.ensures.memory
+    uses_then 2 n (q + 1 + n) 2 1 (q + 1) 4 (n + 1) _ _ _ _ _ _ _ (omega arith) (omega arith) (omega (arith, c.base.ensures.value)) (omega (arith, c.base.ensures.value)) c.write_safely.ensures.memory
+    c.write_safely-2.ensures.memory
 
 pub returns-clause-memory : goal.returns-clause-memory
 returns-clause-memory g c =
     let n = length c.args.bodies.now in
     let q = c.base.result + c.args.end in
-    uses_then 2 n (q + 1 + n) 2 1 (q + 1) 4 (n + 1) _ _ _ _ _ _ _ (omega arith) (omega arith) (omega (arith, c.base.ensures.value)) (omega (arith, c.base.ensures.value)) c.write_safely.ensures.memory c.write_safely-2.ensures.memory
+    uses_then 2 n (q + 1 + n) 2 1 (q + 1) 4 (n + 1) _ _ _ _ _ _ _ (omega arith) (omega arith) (omega (arith, c.base.ensures.value)) (omega (arith, c.base.ensures.value)) c.write_safely.ensures.memory
+    c.write_safely-2.ensures.memory

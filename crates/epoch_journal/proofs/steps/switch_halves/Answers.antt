@@ -31,7 +31,8 @@ returns-in_err-write_safely-2-clause-any_moment g c label rs r piece settled onl
     (c.write_safely.ensures.any_moment only)
     (c.write_safely-2.ensures.any_moment c.in_ok-write_safely.ensures.durable)
     (λ image torn. still_current l c.args.first rs r c.args.piece.now f piece settled c.requires.room c.base.result image c.base.ensures.value torn)
-    (λ image torn. either l c.args.first rs r c.args.piece.now f piece settled c.requires.room c.base.result mid c.base.ensures.value c.write_safely.ensures.torn c.in_ok-write_safely.ensures.written image torn)
+    (λ image torn. either l c.args.first rs r c.args.piece.now f piece settled c.requires.room c.base.result mid c.base.ensures.value c.write_safely.ensures.torn c.in_ok-write_safely.ensures.written
+    image torn)
 
 pub returns-clause-any_moment : goal.returns-clause-any_moment
 returns-clause-any_moment g c label rs r piece settled only =
@@ -44,7 +45,8 @@ returns-clause-any_moment g c label rs r piece settled only =
     (c.write_safely.ensures.any_moment only)
     (c.write_safely-2.ensures.any_moment c.in_ok-write_safely.ensures.durable)
     (λ image torn. still_current l c.args.first rs r c.args.piece.now f piece settled c.requires.room c.base.result image c.base.ensures.value torn)
-    (λ image torn. either l c.args.first rs r c.args.piece.now f piece settled c.requires.room c.base.result mid c.base.ensures.value c.write_safely.ensures.torn c.in_ok-write_safely.ensures.written image torn)
+    (λ image torn. either l c.args.first rs r c.args.piece.now f piece settled c.requires.room c.base.result mid c.base.ensures.value c.write_safely.ensures.torn c.in_ok-write_safely.ensures.written
+    image torn)
 
 pub returns-clause-switched : goal.returns-clause-switched
 returns-clause-switched g c label rs r piece settled =
@@ -54,7 +56,8 @@ returns-clause-switched g c label rs r piece settled =
     let mid = d.seen c.write_safely.new.disk in
     let chosen : ((c.args.first ≡ true) × (c.if-first.selector ≡ 0)) ⊎ ((c.args.first ≡ false) × (c.if-first.selector ≡ 1)) =
     elim c.if-first.branch [ then-first w ↦ inl (w.if-first.true, w.selector-is) | else-first w ↦ inr (w.if-first.false, w.selector-is) ] in (
-      switched l c.args.first rs r c.args.piece.now f piece settled c.requires.room c.base.result mid c.base.ensures.value c.write_safely.ensures.torn c.in_ok-write_safely.ensures.written c.if-first.selector (d.seen c.write_safely-2.new.disk) chosen c.write_safely-2.ensures.torn c.in_ok-write_safely-2.ensures.written,
+      switched l c.args.first rs r c.args.piece.now f piece settled c.requires.room c.base.result mid c.base.ensures.value c.write_safely.ensures.torn c.in_ok-write_safely.ensures.written
+          c.if-first.selector (d.seen c.write_safely-2.new.disk) chosen c.write_safely-2.ensures.torn c.in_ok-write_safely-2.ensures.written,
       c.in_ok-write_safely-2.ensures.durable,
     )
 
@@ -62,7 +65,13 @@ pub write_safely-requires : goal.write_safely-requires
 write_safely-requires g c = omega (arith, both_fit c.args.capacity (not c.args.first) (length c.args.piece.now) c.requires.some c.requires.room, c.base.ensures.value, c.requires.small)
 
 pub write_safely-requires-2 : goal.write_safely-requires-2
-write_safely-requires-2 g c = omega (arith, both_fit c.args.capacity (not c.args.first) (length c.args.piece.now) c.requires.some c.requires.room, c.base.ensures.value, c.requires.small, c.write_safely.ensures.stays)
+write_safely-requires-2 g c = omega (
+  arith,
+  both_fit c.args.capacity (not c.args.first) (length c.args.piece.now) c.requires.some c.requires.room,
+  c.base.ensures.value,
+  c.requires.small,
+  c.write_safely.ensures.stays,
+)
 
 pub returns-clause-resting : goal.returns-clause-resting
 returns-clause-resting g c label r piece fronted =
@@ -72,7 +81,8 @@ returns-clause-resting g c label r piece fronted =
     let mid = d.seen c.write_safely.new.disk in
     let chosen : ((c.args.first ≡ true) × (c.if-first.selector ≡ 0)) ⊎ ((c.args.first ≡ false) × (c.if-first.selector ≡ 1)) =
     elim c.if-first.branch [ then-first w ↦ inl (w.if-first.true, w.selector-is) | else-first w ↦ inr (w.if-first.false, w.selector-is) ] in
-    rests_fronted l c.args.first r c.args.piece.now f piece fronted c.base.result mid c.base.ensures.value c.write_safely.ensures.torn c.in_ok-write_safely.ensures.written c.if-first.selector (d.seen c.write_safely-2.new.disk) chosen c.write_safely-2.ensures.torn c.in_ok-write_safely-2.ensures.written
+    rests_fronted l c.args.first r c.args.piece.now f piece fronted c.base.result mid c.base.ensures.value c.write_safely.ensures.torn c.in_ok-write_safely.ensures.written c.if-first.selector
+    (d.seen c.write_safely-2.new.disk) chosen c.write_safely-2.ensures.torn c.in_ok-write_safely-2.ensures.written
 
 pub returns-in_err-write_safely-clause-memory : goal.returns-in_err-write_safely-clause-memory
 returns-in_err-write_safely-clause-memory g c =
@@ -82,9 +92,11 @@ returns-in_err-write_safely-clause-memory g c =
 pub returns-in_err-write_safely-2-clause-memory : goal.returns-in_err-write_safely-2-clause-memory
 returns-in_err-write_safely-2-clause-memory g c =
     let n = length c.args.piece.now in
-    uses_then 2 n (c.base.result + n) 2 1 1 4 (n + 1) _ _ _ _ _ _ _ (omega arith) (omega arith) (omega (arith, c.base.ensures.value)) (omega (arith, half_some c.args.capacity (not c.args.first))) c.write_safely.ensures.memory c.write_safely-2.ensures.memory
+    uses_then 2 n (c.base.result + n) 2 1 1 4 (n + 1) _ _ _ _ _ _ _ (omega arith) (omega arith) (omega (arith, c.base.ensures.value)) (omega (arith, half_some c.args.capacity (not c.args.first)))
+    c.write_safely.ensures.memory c.write_safely-2.ensures.memory
 
 pub returns-clause-memory : goal.returns-clause-memory
 returns-clause-memory g c =
     let n = length c.args.piece.now in
-    uses_then 2 n (c.base.result + n) 2 1 1 4 (n + 1) _ _ _ _ _ _ _ (omega arith) (omega arith) (omega (arith, c.base.ensures.value)) (omega (arith, half_some c.args.capacity (not c.args.first))) c.write_safely.ensures.memory c.write_safely-2.ensures.memory
+    uses_then 2 n (c.base.result + n) 2 1 1 4 (n + 1) _ _ _ _ _ _ _ (omega arith) (omega arith) (omega (arith, c.base.ensures.value)) (omega (arith, half_some c.args.capacity (not c.args.first)))
+    c.write_safely.ensures.memory c.write_safely-2.ensures.memory

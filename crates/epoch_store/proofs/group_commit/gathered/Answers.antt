@@ -9,14 +9,26 @@ pub returns-in-Err-clause-full : goal.returns-in-Err-clause-full
 returns-in-Err-clause-full g c is =
     let e = g.E.Recorder in
     let j = c.args.journal.now in
-    let left : c.min-left.result ≡ half_size j.layout.capacity - (j.end + size_of c.args.group.now.records) = omega (arith, c.min-left.ensures, c.left.ensures.left, c.size-waiting.ensures, small_half j.layout.capacity) in
+    let left : c.min-left.result ≡ half_size j.layout.capacity - (j.end + size_of c.args.group.now.records) = omega (
+      arith,
+      c.min-left.ensures,
+      c.left.ensures.left,
+      c.size-waiting.ensures,
+      small_half j.layout.capacity,
+    ) in
     subst (λ (n : ℕ). e.lacks c.args.engine.now n c.args.session c.args.request) left (c.in-Err.ensures.full (still_full c.in-Err.error is))
 
 pub returns-clause-room : goal.returns-clause-room
 returns-clause-room g c lacks =
     let e = g.E.Recorder in
     let j = c.args.journal.now in
-    let left : c.min-left.result ≡ half_size j.layout.capacity - (j.end + size_of c.args.group.now.records) = omega (arith, c.min-left.ensures, c.left.ensures.left, c.size-waiting.ensures, small_half j.layout.capacity) in
+    let left : c.min-left.result ≡ half_size j.layout.capacity - (j.end + size_of c.args.group.now.records) = omega (
+      arith,
+      c.min-left.ensures,
+      c.left.ensures.left,
+      c.size-waiting.ensures,
+      small_half j.layout.capacity,
+    ) in
     absurd (c.in-Ok.ensures.room (subst (λ (n : ℕ). e.lacks c.args.engine.now n c.args.session c.args.request) (sym left) lacks))
 
 pub body_and_memory-requires-clause-waiting : goal.body_and_memory-requires-clause-waiting

@@ -28,5 +28,6 @@ pub returns-clause-any_moment : goal.returns-clause-any_moment
 returns-clause-any_moment g c =
     let d = g.D.Disk in
     let now = c.ask.new.self in
-    subst (λ (s : Gathering EngineModel _). LeavesOnly d.moment d.left_since s.journal.disk now.journal.disk (TellsCommits s.journal.layout now.engine.engine.store now.engine.engine.events s.journal.acknowledged)) c.self.view_is
+    subst (λ (s : Gathering EngineModel _). LeavesOnly d.moment d.left_since s.journal.disk now.journal.disk
+    (TellsCommits s.journal.layout now.engine.engine.store now.engine.engine.events s.journal.acknowledged)) c.self.view_is
     c.ask.ensures.any_moment

@@ -27,5 +27,6 @@ returns-clause-life g c T past life = lives_are_serial T (epochs (record { past 
 pub returns-clause-images : goal.returns-clause-images
 returns-clause-images g c =
     let d = g.D.Disk in
-    subst (λ (s : Gathering EngineModel _). (image : List ℕ) → d.may_leave s.journal.disk image → TellsCommits s.journal.layout s.engine.store s.engine.events s.journal.acknowledged image) c.self.view_is
+    subst (λ (s : Gathering EngineModel _). (image : List ℕ) → d.may_leave s.journal.disk image → TellsCommits s.journal.layout s.engine.store s.engine.events s.journal.acknowledged image)
+    c.self.view_is
     c.engine-recording.ensures.images

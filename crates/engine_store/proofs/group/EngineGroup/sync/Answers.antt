@@ -19,7 +19,8 @@ pub returns-clause-images : goal.returns-clause-images
 returns-clause-images g c =
     let d = g.D.Disk in
     let j = c.sync-store.result.0.journal in
-    subst (λ (s : Gathering EngineModel _). (image : List ℕ) → d.may_leave j.disk image → TellsCommits j.layout s.engine.store s.engine.events j.acknowledged image) c.self.view_is c.sync-store.ensures.images
+    subst (λ (s : Gathering EngineModel _). (image : List ℕ) → d.may_leave j.disk image → TellsCommits j.layout s.engine.store s.engine.events j.acknowledged image) c.self.view_is
+    c.sync-store.ensures.images
 
 pub returns-clause-all : goal.returns-clause-all
 returns-clause-all g c =

@@ -1,4 +1,4 @@
-use Rattle.std.proofs.Common.{◌≡◌, Bool, true, false, List, ℕ, Result, Ok, IfOk, MatchResult, refl, sym, ◌∙◌, ap, subst}
+use Rattle.std.proofs.Common.{Result, Ok, IfOk, MatchResult, refl, sym, subst}
 use Rattle.crash_disk.specs.Disk.{LeavesOnly}
 use Rattle.record_journal.proofs.Moments.{weaker}
 use Rattle.engine_core.specs.EngineModel.{EngineModel}
@@ -33,7 +33,8 @@ returns-clause-any_moment_next g c =
           subst (λ (r : Result _ _). IfOk r (λ _. LeavesOnly d.moment d.left_since c.args.self.now.journal.disk now.journal.disk Q)) (sym w.result-is)
           (subst (λ (s : Stored EngineModel _). LeavesOnly d.moment d.left_since s.journal.disk now.journal.disk Q) c.self.view_is
           (weaker d.moment d.left_since was.journal.disk now.journal.disk P Q
-          (λ image. next_rows was.journal.layout now.journal.layout was.engine.engine now.engine.engine was.journal.acknowledged image c.begin_next.ensures.layout all w.in-Ok.ensures.begun.1.events w.in-Ok.ensures.rows)
+          (λ image. next_rows was.journal.layout now.journal.layout was.engine.engine now.engine.engine was.journal.acknowledged image c.begin_next.ensures.layout all w.in-Ok.ensures.begun.1.events
+          w.in-Ok.ensures.rows)
           c.begin_next.ensures.any_moment)))
       | in-Err w ↦ subst (λ (r : Result _ _). IfOk r (λ _. LeavesOnly d.moment d.left_since c.args.self.now.journal.disk now.journal.disk Q)) (sym w.result-is) tt
     ]

@@ -9,7 +9,8 @@ pub returns-clause-images : goal.returns-clause-images
 returns-clause-images g c =
     let d = g.D.Disk in
     let s = c.args.self in
-    let whole = subst (λ (s : Stored EngineModel _). (image : List ℕ) → d.may_leave s.journal.disk image → TellsCommits s.journal.layout s.engine.store s.engine.events s.journal.acknowledged image) c.self.view_is
+    let whole = subst (λ (s : Stored EngineModel _). (image : List ℕ) → d.may_leave s.journal.disk image → TellsCommits s.journal.layout s.engine.store s.engine.events s.journal.acknowledged image)
+    c.self.view_is
     c.into_parts-engine.ensures.images in
     subst (λ (disk : _). (image : List ℕ) → d.may_leave disk image → TellsCommits s.journal.layout s.engine.store s.engine.events s.journal.acknowledged image)
     (sym (c.into_disk.ensures.disk ∙ ap (λ (j : JournalState _). j.disk) (c.into_parts-engine.ensures.parts.1 ∙ ap (λ (s : Stored EngineModel _). s.journal) c.self.view_is)))

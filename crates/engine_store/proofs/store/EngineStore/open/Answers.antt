@@ -47,7 +47,8 @@ returns-in-Ok-clause-life g c T past last least life tell =
     let e = c.in-Ok.engine in
     let same : e ≡ c.new.result.engine.engine = sym (ap (λ (r : _). r.engine) c.new.ensures.0) in
     subst (λ (f : EngineModel). (k : ℕ) × (least ≤ k) × (k ≤ commit_count last.events) × IsLife T (record { past = past ++ epoch_with k last ∷ []; present = f })) same
-    (life_reopened d.seen d.may_leave c.in-Ok.journal least T past last e c.in-Ok.ensures.engine.is life (c.in-Ok.ensures.opened.found_on (row_of last.store.rows) (records_of last.store.setup last.events) least tell))
+    (life_reopened d.seen d.may_leave c.in-Ok.journal least T past last e c.in-Ok.ensures.engine.is life
+    (c.in-Ok.ensures.opened.found_on (row_of last.store.rows) (records_of last.store.setup last.events) least tell))
 
 pub returns-in-Ok-clause-first : goal.returns-in-Ok-clause-first
 returns-in-Ok-clause-first g c tell =
@@ -79,11 +80,14 @@ returns-in-Ok-clause-images g c =
     let opened = c.in-Ok.ensures.opened in
     let same : e ≡ c.new.result.engine.engine = sym (ap (λ (r : _). r.engine) c.new.ensures.0) in
     let none : [] ≡ records_of e.store.setup e.events = sym (starts_with_none e c.in-Ok.ensures.engine.events) in
-    subst (λ (x : EngineModel × JournalState _). (image : List ℕ) → d.may_leave x.1.disk image → TellsCommits x.1.layout x.0.store x.0.events x.1.acknowledged image) (λ i. (same i, sym c.new.ensures.1 i))
-    (subst (λ (x : List Record × ℕ). (image : List ℕ) → d.may_leave c.in-Ok.journal.disk image → TellsOn c.in-Ok.journal.layout (row_of e.store.rows) x.0 x.1 image) (λ i. (none i, sym opened.acknowledged i)) opened.begins.each)
+    subst (λ (x : EngineModel × JournalState _). (image : List ℕ) → d.may_leave x.1.disk image → TellsCommits x.1.layout x.0.store x.0.events x.1.acknowledged image)
+    (λ i. (same i, sym c.new.ensures.1 i))
+    (subst (λ (x : List Record × ℕ). (image : List ℕ) → d.may_leave c.in-Ok.journal.disk image → TellsOn c.in-Ok.journal.layout (row_of e.store.rows) x.0 x.1 image)
+    (λ i. (none i, sym opened.acknowledged i)) opened.begins.each)
 
 pub returns-in-Err-clause-reopens : goal.returns-in-Err-clause-reopens
 returns-in-Err-clause-reopens g c first all least tell inside =
     let d = g.D.Disk in
-    reopens d.seen d.may_leave d.moment d.left_since d.faults d.capacity (layout_of (d.capacity c.args.disk) c.args.setup) (row_of c.args.setup.rows) (length c.args.setup.names.tables) c.args.disk c.in-Err.back.disk c.in-Err.back.why
+    reopens d.seen d.may_leave d.moment d.left_since d.faults d.capacity (layout_of (d.capacity c.args.disk) c.args.setup) (row_of c.args.setup.rows) (length c.args.setup.names.tables) c.args.disk
+    c.in-Err.back.disk c.in-Err.back.why
     (g.met.D.Disk.read_is_left c.args.disk) c.in-Err.ensures.refused first all least tell inside

@@ -24,7 +24,9 @@ returns-in-Ok-clause-kept g c start all least more added kept =
     let resting = subst (IsResting (layout was.capacity was.label.items) was.place.first (checkpoint_of run.rows ∷ run.asked) was.place.end) (sym c.adopt.ensures.seen) run.resting in
     let durable = still_only _ _ _ _ c.adopt.ensures.seen c.adopt.ensures.crash run.durable in
     let after = c.in-Ok.ensures.added was.label.items (checkpoint_of run.rows ∷ run.asked) more added resting durable in
-    on_ok c.add_records-added.result (runs d.seen d.may_leave start (all ++ more) (least + length more) _ (omega (arith, c.requires.room, ap (λ (s : JournalState _). s.end) c.self.view_is, ap (λ (s : JournalState _). half_size s.layout.capacity) c.self.view_is))
+    on_ok c.add_records-added.result
+    (runs d.seen d.may_leave start (all ++ more) (least + length more) _
+    (omega (arith, c.requires.room, ap (λ (s : JournalState _). s.end) c.self.view_is, ap (λ (s : JournalState _). half_size s.layout.capacity) c.self.view_is))
     (omega (arith, keeps.all_safe on, length-append all more))
     (record {
       past = run.past;
@@ -106,7 +108,8 @@ returns-in-Ok-clause-memory g c memory =
     (c.add_records-added.ensures.memory.enough (covers_more _ _ _ _ _ c.adopt.ensures.spare covers) ∙ c.adopt.ensures.refusals)
 
 pub returns-in-Ok-clause-calls : goal.returns-in-Ok-clause-calls
-returns-in-Ok-clause-calls g c = calls_since 4 (length c.args.bodies.now + 1) _ _ _ _ (c.adopt.ensures.calls ∙ ap (λ (s : JournalState _). g.D.Disk.tally s.disk) c.self.view_is) c.add_records-added.ensures.calls
+returns-in-Ok-clause-calls g c = calls_since 4 (length c.args.bodies.now + 1) _ _ _ _ (c.adopt.ensures.calls ∙ ap (λ (s : JournalState _). g.D.Disk.tally s.disk) c.self.view_is)
+    c.add_records-added.ensures.calls
 
 pub returns-in-Err-clause-memory : goal.returns-in-Err-clause-memory
 returns-in-Err-clause-memory g c memory =
@@ -117,4 +120,5 @@ returns-in-Err-clause-memory g c memory =
     (c.add_records-added.ensures.memory.enough (covers_more _ _ _ _ _ c.adopt.ensures.spare covers) ∙ c.adopt.ensures.refusals)
 
 pub returns-in-Err-clause-calls : goal.returns-in-Err-clause-calls
-returns-in-Err-clause-calls g c = calls_since 4 (length c.args.bodies.now + 1) _ _ _ _ (c.adopt.ensures.calls ∙ ap (λ (s : JournalState _). g.D.Disk.tally s.disk) c.self.view_is) c.add_records-added.ensures.calls
+returns-in-Err-clause-calls g c = calls_since 4 (length c.args.bodies.now + 1) _ _ _ _ (c.adopt.ensures.calls ∙ ap (λ (s : JournalState _). g.D.Disk.tally s.disk) c.self.view_is)
+    c.add_records-added.ensures.calls

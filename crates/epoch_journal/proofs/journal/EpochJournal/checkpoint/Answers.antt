@@ -84,7 +84,14 @@ returns-in-Ok-switch_halves-clause-begins g c start all least kept =
     let durable = still_only _ _ _ _ c.adopt.ensures.seen c.adopt.ensures.crash run.durable in
     let after = c.in-Ok-switch_halves.ensures.switched was.label.items rs r piece settled in
     let same : length c.deref-2.result.now - 1 ≡ c.len-in-Ok-switch_halves.result - 1 = search rules in
-    let below : c.len-in-Ok-switch_halves.result - 1 < half_size was.capacity = omega (arith, c.in-Ok.ensures.fits, c.in-Ok.ensures.length, ap length c.deref-2.ensures.value, ap length c.deref.ensures.value, same) in
+    let below : c.len-in-Ok-switch_halves.result - 1 < half_size was.capacity = omega (
+      arith,
+      c.in-Ok.ensures.fits,
+      c.in-Ok.ensures.length,
+      ap length c.deref-2.ensures.value,
+      ap length c.deref.ensures.value,
+      same,
+    ) in
     let resting = subst (λ (n : ℕ). IsResting l (not was.place.first) (r ∷ []) n (d.seen c.switch_halves.new.disk)) same after.0 in
     begun d.seen d.may_leave c.args.rows.now _ below resting after.1
 
@@ -103,7 +110,14 @@ returns-in-Ok-switch_halves-clause-kept g c start all least kept now =
     let durable = still_only _ _ _ _ c.adopt.ensures.seen c.adopt.ensures.crash run.durable in
     let after = c.in-Ok-switch_halves.ensures.switched was.label.items rs r piece settled in
     let same : length c.deref-2.result.now - 1 ≡ c.len-in-Ok-switch_halves.result - 1 = search rules in
-    let below : c.len-in-Ok-switch_halves.result - 1 < half_size was.capacity = omega (arith, c.in-Ok.ensures.fits, c.in-Ok.ensures.length, ap length c.deref-2.ensures.value, ap length c.deref.ensures.value, same) in
+    let below : c.len-in-Ok-switch_halves.result - 1 < half_size was.capacity = omega (
+      arith,
+      c.in-Ok.ensures.fits,
+      c.in-Ok.ensures.length,
+      ap length c.deref-2.ensures.value,
+      ap length c.deref.ensures.value,
+      same,
+    ) in
     let resting = subst (λ (n : ℕ). IsResting l (not was.place.first) (r ∷ []) n (d.seen c.switch_halves.new.disk)) same after.0 in
     runs d.seen d.may_leave start all least _ below (keeps.all_safe on)
     (record {

@@ -116,7 +116,8 @@ returns-clause-any_moment_on_back g c first all least before =
     if_err c.begin.result
     (λ back. LeavesOnly d.moment d.left_since mid.disk back.disk (TellsOn mid.layout first all least))
     (λ back. LeavesOnly d.moment d.left_since disk back.disk (TellsOn l first all least))
-    (λ back only. and_then d.moment d.left_since disk mid.disk back.disk (d.may_leave disk) (TellsOn mid.layout first all least) (TellsOn l first all least) c.in-Ok.ensures.quiet.0.any_moment only before
+    (λ back only. and_then d.moment d.left_since disk mid.disk back.disk (d.may_leave disk) (TellsOn mid.layout first all least) (TellsOn l first all least) c.in-Ok.ensures.quiet.0.any_moment only
+    before
     (λ image tells. subst (λ (m : Layout). TellsOn m first all least image) c.in-Ok.ensures.layout tells))
     (c.begin.ensures.any_moment_on_back first all least found.0 found.1 found.2)
 

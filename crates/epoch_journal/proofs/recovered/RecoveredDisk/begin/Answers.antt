@@ -19,7 +19,8 @@ returns-in-Ok-clause-found g c start all least k has =
     let found = subst (λ (s : RecoveredState _). HasFound d.seen d.may_leave start all least k s) (sym c.self.view_is) has in
     let at = subst (λ (t : List ℕ). IsAt (layout was.capacity t) found.list was.current (d.seen was.disk)) (sym c.deref.ensures.value) found.at in
     let after = c.in-Ok.ensures.begun found.list at found.durable in
-    let resting = subst (λ (x : List ℕ × List (Cell × ℤ)). IsResting (layout was.capacity x.0) c.in-Ok.place.first (checkpoint_of x.1 ∷ []) c.in-Ok.place.end (d.seen c.begin_with.new.disk)) (λ i. (c.deref.ensures.value i, c.deref-2.ensures.value i)) after.0 in
+    let resting = subst (λ (x : List ℕ × List (Cell × ℤ)). IsResting (layout was.capacity x.0) c.in-Ok.place.first (checkpoint_of x.1 ∷ []) c.in-Ok.place.end (d.seen c.begin_with.new.disk))
+    (λ i. (c.deref.ensures.value i, c.deref-2.ensures.value i)) after.0 in
     begun_keeps d.seen d.may_leave start all least k _ found _ c.in-Ok.ensures.place.0 resting after.1
 
 pub returns-in-Ok-clause-begins : goal.returns-in-Ok-clause-begins
@@ -28,7 +29,8 @@ returns-in-Ok-clause-begins g c is only =
     let was = c.self.inside in
     let current = subst (λ (s : RecoveredState _). IsCurrently s.layout.capacity s.current (d.seen s.disk)) (sym c.self.view_is) is in
     let durable = subst (λ (s : RecoveredState _). Only (d.seen s.disk) (d.may_leave s.disk)) (sym c.self.view_is) only in
-    let resting = subst (λ (x : List ℕ × List (Cell × ℤ)). IsResting (layout was.capacity x.0) c.in-Ok.place.first (checkpoint_of x.1 ∷ []) c.in-Ok.place.end (d.seen c.begin_with.new.disk)) (λ i. (c.deref.ensures.value i, c.deref-2.ensures.value i)) (c.in-Ok.ensures.resting current durable) in
+    let resting = subst (λ (x : List ℕ × List (Cell × ℤ)). IsResting (layout was.capacity x.0) c.in-Ok.place.first (checkpoint_of x.1 ∷ []) c.in-Ok.place.end (d.seen c.begin_with.new.disk))
+    (λ i. (c.deref.ensures.value i, c.deref-2.ensures.value i)) (c.in-Ok.ensures.resting current durable) in
     begun d.seen d.may_leave was.rows.items _ c.in-Ok.ensures.place.0 resting c.in-Ok.ensures.durable
 
 pub returns-in-Ok-clause-any_moment : goal.returns-in-Ok-clause-any_moment
@@ -39,7 +41,8 @@ returns-in-Ok-clause-any_moment g c start all least k has =
     let l = layout was.capacity was.label.items in
     let ck = checkpoint_of was.rows.items in
     let at = subst (λ (t : List ℕ). IsAt (layout was.capacity t) found.list was.current (d.seen was.disk)) (sym c.deref.ensures.value) found.at in
-    let only = subst (λ (x : List ℕ × List (Cell × ℤ)). LeavesOnly d.moment d.left_since was.disk c.begin_with.new.disk (HasOneOf (layout was.capacity x.0) found.list (checkpoint_of x.1 ∷ []))) (λ i. (c.deref.ensures.value i, c.deref-2.ensures.value i))
+    let only = subst (λ (x : List ℕ × List (Cell × ℤ)). LeavesOnly d.moment d.left_since was.disk c.begin_with.new.disk (HasOneOf (layout was.capacity x.0) found.list (checkpoint_of x.1 ∷ [])))
+    (λ i. (c.deref.ensures.value i, c.deref-2.ensures.value i))
     (c.begin_with.ensures.any_moment found.list at found.durable) in
     subst (λ (s : RecoveredState _). LeavesOnly d.moment d.left_since s.disk c.begin_with.new.disk (Tells s.layout start all least)) c.self.view_is
     (weaker d.moment d.left_since was.disk c.begin_with.new.disk (HasOneOf l found.list (ck ∷ [])) (Tells l start all least) (tells_again d.seen d.may_leave start all least k _ found) only)
@@ -52,7 +55,8 @@ returns-in-Err-clause-any_moment_back g c start all least k has =
     let l = layout was.capacity was.label.items in
     let ck = checkpoint_of was.rows.items in
     let at = subst (λ (t : List ℕ). IsAt (layout was.capacity t) found.list was.current (d.seen was.disk)) (sym c.deref.ensures.value) found.at in
-    let only = subst (λ (x : List ℕ × List (Cell × ℤ)). LeavesOnly d.moment d.left_since was.disk c.begin_with.new.disk (HasOneOf (layout was.capacity x.0) found.list (checkpoint_of x.1 ∷ []))) (λ i. (c.deref.ensures.value i, c.deref-2.ensures.value i))
+    let only = subst (λ (x : List ℕ × List (Cell × ℤ)). LeavesOnly d.moment d.left_since was.disk c.begin_with.new.disk (HasOneOf (layout was.capacity x.0) found.list (checkpoint_of x.1 ∷ [])))
+    (λ i. (c.deref.ensures.value i, c.deref-2.ensures.value i))
     (c.begin_with.ensures.any_moment found.list at found.durable) in
     subst (λ (s : RecoveredState _). LeavesOnly d.moment d.left_since s.disk c.begin_with.new.disk (Tells s.layout start all least)) c.self.view_is
     (weaker d.moment d.left_since was.disk c.begin_with.new.disk (HasOneOf l found.list (ck ∷ [])) (Tells l start all least) (tells_again d.seen d.may_leave start all least k _ found) only)
@@ -65,10 +69,12 @@ returns-in-Ok-clause-any_moment_on g c start all least k has begun =
     let l = layout was.capacity was.label.items in
     let ck = checkpoint_of was.rows.items in
     let at = subst (λ (t : List ℕ). IsAt (layout was.capacity t) found.0.list was.current (d.seen was.disk)) (sym c.deref.ensures.value) found.0.at in
-    let only = subst (λ (x : List ℕ × List (Cell × ℤ)). LeavesOnly d.moment d.left_since was.disk c.begin_with.new.disk (HasOneOf (layout was.capacity x.0) found.0.list (checkpoint_of x.1 ∷ []))) (λ i. (c.deref.ensures.value i, c.deref-2.ensures.value i))
+    let only = subst (λ (x : List ℕ × List (Cell × ℤ)). LeavesOnly d.moment d.left_since was.disk c.begin_with.new.disk (HasOneOf (layout was.capacity x.0) found.0.list (checkpoint_of x.1 ∷ [])))
+    (λ i. (c.deref.ensures.value i, c.deref-2.ensures.value i))
     (c.begin_with.ensures.any_moment found.0.list at found.0.durable) in
     subst (λ (s : RecoveredState _). LeavesOnly d.moment d.left_since s.disk c.begin_with.new.disk (TellsOn s.layout start all least)) c.self.view_is
-    (weaker d.moment d.left_since was.disk c.begin_with.new.disk (HasOneOf l found.0.list (ck ∷ [])) (TellsOn l start all least) (tells_on_again d.seen d.may_leave start all least k _ found.0 found.1) only)
+    (weaker d.moment d.left_since was.disk c.begin_with.new.disk (HasOneOf l found.0.list (ck ∷ [])) (TellsOn l start all least) (tells_on_again d.seen d.may_leave start all least k _ found.0 found.1)
+    only)
 
 pub returns-in-Err-clause-any_moment_on_back : goal.returns-in-Err-clause-any_moment_on_back
 returns-in-Err-clause-any_moment_on_back g c start all least k has begun =
@@ -78,10 +84,12 @@ returns-in-Err-clause-any_moment_on_back g c start all least k has begun =
     let l = layout was.capacity was.label.items in
     let ck = checkpoint_of was.rows.items in
     let at = subst (λ (t : List ℕ). IsAt (layout was.capacity t) found.0.list was.current (d.seen was.disk)) (sym c.deref.ensures.value) found.0.at in
-    let only = subst (λ (x : List ℕ × List (Cell × ℤ)). LeavesOnly d.moment d.left_since was.disk c.begin_with.new.disk (HasOneOf (layout was.capacity x.0) found.0.list (checkpoint_of x.1 ∷ []))) (λ i. (c.deref.ensures.value i, c.deref-2.ensures.value i))
+    let only = subst (λ (x : List ℕ × List (Cell × ℤ)). LeavesOnly d.moment d.left_since was.disk c.begin_with.new.disk (HasOneOf (layout was.capacity x.0) found.0.list (checkpoint_of x.1 ∷ [])))
+    (λ i. (c.deref.ensures.value i, c.deref-2.ensures.value i))
     (c.begin_with.ensures.any_moment found.0.list at found.0.durable) in
     subst (λ (s : RecoveredState _). LeavesOnly d.moment d.left_since s.disk c.begin_with.new.disk (TellsOn s.layout start all least)) c.self.view_is
-    (weaker d.moment d.left_since was.disk c.begin_with.new.disk (HasOneOf l found.0.list (ck ∷ [])) (TellsOn l start all least) (tells_on_again d.seen d.may_leave start all least k _ found.0 found.1) only)
+    (weaker d.moment d.left_since was.disk c.begin_with.new.disk (HasOneOf l found.0.list (ck ∷ [])) (TellsOn l start all least) (tells_on_again d.seen d.may_leave start all least k _ found.0 found.1)
+    only)
 
 pub returns-in-Err-clause-not_full : goal.returns-in-Err-clause-not_full
 returns-in-Err-clause-not_full g c start all least k has begun is =

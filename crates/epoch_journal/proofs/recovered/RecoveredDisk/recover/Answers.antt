@@ -15,7 +15,8 @@ returns-in-Ok-read_disk-clause-found g c all least before =
     let new = c.read_disk.new.disk in
     let file = d.seen disk in
     let start = row_of c.args.start.now in
-    let t = subst (λ (x : ℕ × List ℕ). Tells (layout x.0 x.1) start all least file) (λ i. (sym c.capacity-capacity.ensures i, sym c.in-Ok.ensures.items i)) (before file (g.met.D.Disk.read_is_left disk)) in
+    let t = subst (λ (x : ℕ × List ℕ). Tells (layout x.0 x.1) start all least file) (λ i. (sym c.capacity-capacity.ensures i, sym c.in-Ok.ensures.items i))
+    (before file (g.met.D.Disk.read_is_left disk)) in
     let read = c.in-Ok-read_disk.ensures.read in
     let same = c.read_disk.ensures.quiet.same in
     let labelled = subst (λ (t : List ℕ). IsReadAs (layout c.capacity-capacity.result t) read.0 file) c.deref.ensures.value read.1 in
@@ -28,7 +29,8 @@ returns-in-Ok-read_disk-clause-found_on g c first all least before =
     let disk = c.args.disk in
     let new = c.read_disk.new.disk in
     let file = d.seen disk in
-    let on = subst (λ (x : ℕ × List ℕ). TellsOn (layout x.0 x.1) first all least file) (λ i. (sym c.capacity-capacity.ensures i, sym c.in-Ok.ensures.items i)) (before file (g.met.D.Disk.read_is_left disk)) in
+    let on = subst (λ (x : ℕ × List ℕ). TellsOn (layout x.0 x.1) first all least file) (λ i. (sym c.capacity-capacity.ensures i, sym c.in-Ok.ensures.items i))
+    (before file (g.met.D.Disk.read_is_left disk)) in
     let read = c.in-Ok-read_disk.ensures.read in
     let same = c.read_disk.ensures.quiet.same in
     let labelled = subst (λ (t : List ℕ). IsReadAs (layout c.capacity-capacity.result t) read.0 file) c.deref.ensures.value read.1 in

@@ -17,8 +17,10 @@ returns-in-Err-clause-any_moment g c =
     let mid =
     gathers_same d.seen d.may_leave d.spare_with (e.store was.engine) (e.store new) (e.records was.engine) (e.records new) was.group.records c.gathered.new.group.records was.memory was.journal
     c.gathered.ensures.store c.gathered.ensures.records c.gathered.ensures.same_group c.self.invariant in
-    subst (λ (s : Gathering _ _). LeavesOnly d.moment d.left_since s.journal.disk was.journal.disk (TellsOn s.journal.layout (row_of (e.store new).rows) (e.records new) s.journal.acknowledged)) c.self.view_is
-    (waits_still d.seen d.may_leave d.spare_with d.moment d.left_since (row_of (e.store new).rows) (e.records new) c.gathered.new.group.records was.memory was.journal (g.met.D.Disk.only_now was.journal.disk) mid)
+    subst (λ (s : Gathering _ _). LeavesOnly d.moment d.left_since s.journal.disk was.journal.disk (TellsOn s.journal.layout (row_of (e.store new).rows) (e.records new) s.journal.acknowledged))
+    c.self.view_is
+    (waits_still d.seen d.may_leave d.spare_with d.moment d.left_since (row_of (e.store new).rows) (e.records new) c.gathered.new.group.records was.memory was.journal
+    (g.met.D.Disk.only_now was.journal.disk) mid)
 
 pub returns-in-Err-clause-images : goal.returns-in-Err-clause-images
 returns-in-Err-clause-images g c =
@@ -45,8 +47,10 @@ returns-then-ne-clause-any_moment g c =
     let gathers =
     gathers_same d.seen d.may_leave d.spare_with (e.store new) (e.store after) (e.records new) (e.records after) c.gathered.new.group.records c.gathered.new.group.records was.memory was.journal
     c.answer-reply.ensures.store (c.answer-reply.ensures.others other) refl mid in
-    subst (λ (s : Gathering _ _). LeavesOnly d.moment d.left_since s.journal.disk was.journal.disk (TellsOn s.journal.layout (row_of (e.store after).rows) (e.records after) s.journal.acknowledged)) c.self.view_is
-    (waits_still d.seen d.may_leave d.spare_with d.moment d.left_since (row_of (e.store after).rows) (e.records after) c.gathered.new.group.records was.memory was.journal (g.met.D.Disk.only_now was.journal.disk) gathers)
+    subst (λ (s : Gathering _ _). LeavesOnly d.moment d.left_since s.journal.disk was.journal.disk (TellsOn s.journal.layout (row_of (e.store after).rows) (e.records after) s.journal.acknowledged))
+    c.self.view_is
+    (waits_still d.seen d.may_leave d.spare_with d.moment d.left_since (row_of (e.store after).rows) (e.records after) c.gathered.new.group.records was.memory was.journal
+    (g.met.D.Disk.only_now was.journal.disk) gathers)
 
 pub returns-then-ne-clause-images : goal.returns-then-ne-clause-images
 returns-then-ne-clause-images g c =
@@ -79,7 +83,8 @@ invariant_of-self-2 g c =
     let record_of = c.answer-reply.ensures.commits body is c.in-Ok.ensures.prepared in
     let pushed = c.push.ensures.records record_of.0 (subst (IsBody record_of.0) (sym c.deref.ensures.value) record_of.1) in
     let gathers =
-    gathers_more d.seen d.may_leave d.spare_with (e.store new) (e.store after) (e.records new) (e.records after) c.gathered.new.group.records c.push.new.self.records record_of.0 body was.memory c.in-Ok.gathered.1 was.journal
+    gathers_more d.seen d.may_leave d.spare_with (e.store new) (e.store after) (e.records new) (e.records after) c.gathered.new.group.records c.push.new.self.records record_of.0 body was.memory
+    c.in-Ok.gathered.1 was.journal
     c.answer-reply.ensures.store record_of.2 pushed record_of.1 c.in-Ok.ensures.fits c.in-Ok.ensures.memory mid in
     gathers
 
@@ -98,10 +103,13 @@ returns-clause-any_moment g c =
     let record_of = c.answer-reply.ensures.commits body is c.in-Ok.ensures.prepared in
     let pushed = c.push.ensures.records record_of.0 (subst (IsBody record_of.0) (sym c.deref.ensures.value) record_of.1) in
     let gathers =
-    gathers_more d.seen d.may_leave d.spare_with (e.store new) (e.store after) (e.records new) (e.records after) c.gathered.new.group.records c.push.new.self.records record_of.0 body was.memory c.in-Ok.gathered.1 was.journal
+    gathers_more d.seen d.may_leave d.spare_with (e.store new) (e.store after) (e.records new) (e.records after) c.gathered.new.group.records c.push.new.self.records record_of.0 body was.memory
+    c.in-Ok.gathered.1 was.journal
     c.answer-reply.ensures.store record_of.2 pushed record_of.1 c.in-Ok.ensures.fits c.in-Ok.ensures.memory mid in
-    subst (λ (s : Gathering _ _). LeavesOnly d.moment d.left_since s.journal.disk was.journal.disk (TellsOn s.journal.layout (row_of (e.store after).rows) (e.records after) s.journal.acknowledged)) c.self.view_is
-    (waits_still d.seen d.may_leave d.spare_with d.moment d.left_since (row_of (e.store after).rows) (e.records after) c.push.new.self.records (Some c.in-Ok.gathered.1) was.journal (g.met.D.Disk.only_now was.journal.disk) gathers)
+    subst (λ (s : Gathering _ _). LeavesOnly d.moment d.left_since s.journal.disk was.journal.disk (TellsOn s.journal.layout (row_of (e.store after).rows) (e.records after) s.journal.acknowledged))
+    c.self.view_is
+    (waits_still d.seen d.may_leave d.spare_with d.moment d.left_since (row_of (e.store after).rows) (e.records after) c.push.new.self.records (Some c.in-Ok.gathered.1) was.journal
+    (g.met.D.Disk.only_now was.journal.disk) gathers)
 
 pub returns-clause-images : goal.returns-clause-images
 returns-clause-images g c =
@@ -118,6 +126,7 @@ returns-clause-images g c =
     let record_of = c.answer-reply.ensures.commits body is c.in-Ok.ensures.prepared in
     let pushed = c.push.ensures.records record_of.0 (subst (IsBody record_of.0) (sym c.deref.ensures.value) record_of.1) in
     let gathers =
-    gathers_more d.seen d.may_leave d.spare_with (e.store new) (e.store after) (e.records new) (e.records after) c.gathered.new.group.records c.push.new.self.records record_of.0 body was.memory c.in-Ok.gathered.1 was.journal
+    gathers_more d.seen d.may_leave d.spare_with (e.store new) (e.store after) (e.records new) (e.records after) c.gathered.new.group.records c.push.new.self.records record_of.0 body was.memory
+    c.in-Ok.gathered.1 was.journal
     c.answer-reply.ensures.store record_of.2 pushed record_of.1 c.in-Ok.ensures.fits c.in-Ok.ensures.memory mid in
     each_tells d.seen d.may_leave d.spare_with (row_of (e.store after).rows) (e.records after) c.push.new.self.records (Some c.in-Ok.gathered.1) was.journal gathers

@@ -13,8 +13,10 @@ returns-then-is_stopped-clause-any_moment g c =
     let d = g.D.Disk in
     let e = g.E.Recorder in
     let was = c.self.inside in
-    subst (λ (s : Stored _ _). LeavesOnly d.moment d.left_since s.journal.disk s.journal.disk (TellsOn s.journal.layout (row_of (e.store s.engine).rows) (e.records s.engine) s.journal.acknowledged)) c.self.view_is
-    (still d.seen d.may_leave d.moment d.left_since (row_of (e.store was.engine).rows) (e.records was.engine) was.journal.acknowledged was.journal (g.met.D.Disk.only_now was.journal.disk) c.self.invariant)
+    subst (λ (s : Stored _ _). LeavesOnly d.moment d.left_since s.journal.disk s.journal.disk (TellsOn s.journal.layout (row_of (e.store s.engine).rows) (e.records s.engine) s.journal.acknowledged))
+    c.self.view_is
+    (still d.seen d.may_leave d.moment d.left_since (row_of (e.store was.engine).rows) (e.records was.engine) was.journal.acknowledged was.journal (g.met.D.Disk.only_now was.journal.disk)
+    c.self.invariant)
 
 pub returns-in-Err-clause-any_moment : goal.returns-in-Err-clause-any_moment
 returns-in-Err-clause-any_moment g c =
@@ -23,15 +25,18 @@ returns-in-Err-clause-any_moment g c =
     let was = c.self.inside in
     let new = c.prepared-prepared.new.engine in
     let n = was.journal.acknowledged in
-    subst (λ (s : Stored _ _). LeavesOnly d.moment d.left_since s.journal.disk was.journal.disk (TellsOn s.journal.layout (row_of (e.store new).rows) (e.records new) s.journal.acknowledged)) c.self.view_is
+    subst (λ (s : Stored _ _). LeavesOnly d.moment d.left_since s.journal.disk was.journal.disk (TellsOn s.journal.layout (row_of (e.store new).rows) (e.records new) s.journal.acknowledged))
+    c.self.view_is
     (still d.seen d.may_leave d.moment d.left_since (row_of (e.store new).rows) (e.records new) n was.journal (g.met.D.Disk.only_now was.journal.disk)
-    (keeps_same d.seen d.may_leave (e.store was.engine) (e.store new) (e.records was.engine) (e.records new) n n was.journal c.prepared-prepared.ensures.store c.prepared-prepared.ensures.records refl c.self.invariant))
+    (keeps_same d.seen d.may_leave (e.store was.engine) (e.store new) (e.records was.engine) (e.records new) n n was.journal c.prepared-prepared.ensures.store c.prepared-prepared.ensures.records refl
+    c.self.invariant))
 
 pub returns-then-is_stopped-clause-images : goal.returns-then-is_stopped-clause-images
 returns-then-is_stopped-clause-images g c =
     let d = g.D.Disk in
     let e = g.E.Recorder in
-    subst (λ (s : Stored _ _). (image : List ℕ) → d.may_leave s.journal.disk image → TellsOn s.journal.layout (row_of (e.store s.engine).rows) (e.records s.engine) s.journal.acknowledged image) c.self.view_is
+    subst (λ (s : Stored _ _). (image : List ℕ) → d.may_leave s.journal.disk image → TellsOn s.journal.layout (row_of (e.store s.engine).rows) (e.records s.engine) s.journal.acknowledged image)
+    c.self.view_is
     c.self.invariant.each
 
 pub returns-in-Err-clause-images : goal.returns-in-Err-clause-images
@@ -41,7 +46,8 @@ returns-in-Err-clause-images g c =
     let was = c.self.inside in
     let new = c.prepared-prepared.new.engine in
     let n = was.journal.acknowledged in
-    (keeps_same d.seen d.may_leave (e.store was.engine) (e.store new) (e.records was.engine) (e.records new) n n was.journal c.prepared-prepared.ensures.store c.prepared-prepared.ensures.records refl c.self.invariant).each
+    (keeps_same d.seen d.may_leave (e.store was.engine) (e.store new) (e.records was.engine) (e.records new) n n was.journal c.prepared-prepared.ensures.store c.prepared-prepared.ensures.records refl
+    c.self.invariant).each
 
 pub returns-in-Err-clause-full : goal.returns-in-Err-clause-full
 returns-in-Err-clause-full g c is =

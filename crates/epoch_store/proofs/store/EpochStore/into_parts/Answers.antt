@@ -8,5 +8,6 @@ pub returns-clause-images : goal.returns-clause-images
 returns-clause-images g c =
     let d = g.D.Disk in
     let e = g.E.Recorder in
-    subst (λ (s : Stored _ _). (image : List ℕ) → d.may_leave s.journal.disk image → TellsOn s.journal.layout (row_of (e.store s.engine).rows) (e.records s.engine) s.journal.acknowledged image) c.self.view_is
+    subst (λ (s : Stored _ _). (image : List ℕ) → d.may_leave s.journal.disk image → TellsOn s.journal.layout (row_of (e.store s.engine).rows) (e.records s.engine) s.journal.acknowledged image)
+    c.self.view_is
     c.self.invariant.each

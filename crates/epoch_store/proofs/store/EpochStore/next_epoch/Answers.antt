@@ -33,7 +33,8 @@ returns-in-Ok-clause-any_moment g c =
     let d = g.D.Disk in
     let e = g.E.Recorder in
     let was = c.self.inside in
-    subst (λ (s : Stored _ _). LeavesOnly d.moment d.left_since s.journal.disk c.begin_with.new.journal.disk (TellsOn s.journal.layout (row_of (e.store s.engine).rows) (e.records s.engine) s.journal.acknowledged)) c.self.view_is
+    subst (λ (s : Stored _ _). LeavesOnly d.moment d.left_since s.journal.disk c.begin_with.new.journal.disk
+    (TellsOn s.journal.layout (row_of (e.store s.engine).rows) (e.records s.engine) s.journal.acknowledged)) c.self.view_is
     (c.begin_with.ensures.any_moment (row_of (e.store was.engine).rows) (e.records was.engine) was.journal.acknowledged c.self.invariant
     (λ x. c.requires.rows x ∙ sym (ap (λ (s : Stored _ _). after_records (e.records s.engine) (row_of (e.store s.engine).rows) x) c.self.view_is)))
 
@@ -42,7 +43,8 @@ returns-in-Err-clause-any_moment g c =
     let d = g.D.Disk in
     let e = g.E.Recorder in
     let was = c.self.inside in
-    subst (λ (s : Stored _ _). LeavesOnly d.moment d.left_since s.journal.disk c.begin_with.new.journal.disk (TellsOn s.journal.layout (row_of (e.store s.engine).rows) (e.records s.engine) s.journal.acknowledged)) c.self.view_is
+    subst (λ (s : Stored _ _). LeavesOnly d.moment d.left_since s.journal.disk c.begin_with.new.journal.disk
+    (TellsOn s.journal.layout (row_of (e.store s.engine).rows) (e.records s.engine) s.journal.acknowledged)) c.self.view_is
     (c.begin_with.ensures.any_moment (row_of (e.store was.engine).rows) (e.records was.engine) was.journal.acknowledged c.self.invariant
     (λ x. c.requires.rows x ∙ sym (ap (λ (s : Stored _ _). after_records (e.records s.engine) (row_of (e.store s.engine).rows) x) c.self.view_is)))
 

@@ -1,28 +1,78 @@
-use Rattle.std.proofs.Common.{◌∙◌}
-use Rattle.shared_store.proofs.Adding.{adds_more}
+use Rattle.std.proofs.Common.{false, true, refl, subst}
+use Rattle.shared_store.specs.declared.entry.LifeEntry.TheVariants.{Taken}
+use Rattle.shared_store.specs.declared.entry.TheConstants.{LOG_SEAT}
+use Rattle.shared_store.specs.Stages.{first_stage}
+use Rattle.shared_store.specs.Lives.{LeadsTo}
+use Rattle.shared_store.specs.Holding.{IsKept, stage_of}
+use Rattle.shared_store.proofs.Adding.{grows_on, grows_one}
+use Rattle.shared_store.proofs.Living.{all_taken, stop_taken}
+use Rattle.shared_store.proofs.Keeping.{keeps_now, kept_err, kept_still, less, runs_err, runs_ok}
 use Rattle.shared_store.proofs.hosted.Hosted.end_epoch.Goals as goal
 
-pub returns-in-Err-Failed-clause-marks : goal.returns-in-Err-Failed-clause-marks
-returns-in-Err-Failed-clause-marks g c = adds_more c.args.by.0 c.args.self.entries.items c.loop.hosted.entries.items c.turned-next.result.0.entries.items c.loop.invariant.0 c.turned-next.ensures.marks
+pub returns-in-Err-clause-kept : goal.returns-in-Err-clause-kept
+returns-in-Err-clause-kept g c =
+    let old = c.args.self in
+    let mid = c.take-batch.new.self in
+    let first = first_stage (g.S.EpochServer.standing old.first.value) in
+    let then_keep = g.S.EpochServer.keeps c.write.new.log in
+    kept_still then_keep first true true c.args.total mid.entries.items c.stop.new.self.entries.items (stop_taken mid.entries.items c.stop.new.self.entries.items c.stop.ensures.entries) (λ y. y)
+    (kept_err (g.S.EpochServer.keeps c.args.log) then_keep (g.S.EpochServer.brings c.take-batch.result) first c.args.total mid.commits old.entries.items mid.entries.items c.requires.kept
+    c.take-batch.ensures.brought (g.S.EpochServer.failed c.write.new.log) c.write.result c.in-Err.fault c.in-Err.is c.write.ensures.not_kept)
 
-pub returns-then-session-by-clause-marks : goal.returns-then-session-by-clause-marks
-returns-then-session-by-clause-marks g c = adds_more c.args.by.0 c.args.self.entries.items c.loop.hosted.entries.items c.turned-next.result.0.entries.items c.loop.invariant.0 c.turned-next.ensures.marks
+pub returns-in-Err-clause-running : goal.returns-in-Err-clause-running
+returns-in-Err-clause-running g c =
+    let old = c.args.self in
+    let mid = c.take-batch.new.self in
+    runs_err (g.S.EpochServer.keeps c.args.log) (g.S.EpochServer.keeps c.write.new.log) (g.S.EpochServer.brings c.take-batch.result) (first_stage (g.S.EpochServer.standing old.first.value))
+    c.args.total mid.commits old.entries.items mid.entries.items c.requires.kept c.take-batch.ensures.brought (g.S.EpochServer.failed c.write.new.log) c.write.result c.in-Err.fault c.in-Err.is
+    c.write.ensures.not_kept
 
-pub returns-in-Ok-clause-marks : goal.returns-in-Ok-clause-marks
-returns-in-Ok-clause-marks g c = adds_more c.args.by.0 c.args.self.entries.items c.loop.hosted.entries.items c.turned-next.result.0.entries.items c.loop.invariant.0 c.turned-next.ensures.marks
+pub turned-hosted-requires-clause-kept : goal.turned-hosted-requires-clause-kept
+turned-hosted-requires-clause-kept g c =
+    let old = c.args.self in
+    let mid = c.take-batch.new.self in
+    let first = first_stage (g.S.EpochServer.standing old.first.value) in
+    let now = stage_of mid.past mid.stopped (g.S.EpochServer.standing mid.server) in
+    keeps_now (g.S.EpochServer.keeps c.args.log) (g.S.EpochServer.keeps c.write.new.log) (g.S.EpochServer.brings c.take-batch.result) first c.args.total mid.commits old.entries.items mid.entries.items
+    c.requires.kept c.take-batch.ensures.brought (g.S.EpochServer.failed c.write.new.log) c.write.result c.in_default.field-0 c.in_default.is c.write.ensures.kept now
+    (all_taken first now old.entries.items mid.entries.items c.take-batch.ensures.entries
+    (subst (λ f. LeadsTo (first_stage (g.S.EpochServer.standing f.value)) mid.entries.items now) c.take-batch.ensures.first mid.life.leads)).1
 
-pub returns-in-Err-clause-marks : goal.returns-in-Err-clause-marks
-returns-in-Err-clause-marks g c =
-    let n = c.args.by.0 in
+pub turned-hosted-requires-clause-running : goal.turned-hosted-requires-clause-running
+turned-hosted-requires-clause-running g c =
+    let old = c.args.self in
+    let mid = c.take-batch.new.self in
+    runs_ok (g.S.EpochServer.keeps c.args.log) (g.S.EpochServer.keeps c.write.new.log) (g.S.EpochServer.brings c.take-batch.result) (first_stage (g.S.EpochServer.standing old.first.value))
+    c.args.total mid.commits old.entries.items mid.entries.items c.requires.kept c.take-batch.ensures.brought (g.S.EpochServer.failed c.write.new.log) c.write.result c.in_default.field-0
+    c.in_default.is c.write.ensures.kept
+
+pub turned-hosted-requires-clause-taken : goal.turned-hosted-requires-clause-taken
+turned-hosted-requires-clause-taken g c =
+    let old = c.args.self in
+    let mid = c.take-batch.new.self in
+    let now = stage_of mid.past mid.stopped (g.S.EpochServer.standing mid.server) in
+    (all_taken (first_stage (g.S.EpochServer.standing mid.first.value)) now old.entries.items mid.entries.items c.take-batch.ensures.entries mid.life.leads).0
+
+pub returns-clause-grows : goal.returns-clause-grows
+returns-clause-grows g c =
     let old = c.args.self.entries.items in
-    let mid = c.turned-next.result.0.entries.items in
-    adds_more n old mid c.end_for.new.self.entries.items (adds_more n old c.loop.hosted.entries.items mid c.loop.invariant.0 c.turned-next.ensures.marks) c.end_for.ensures.marks
+    let mid = c.take-batch.new.self.entries.items in
+    let turned = c.turned-hosted.result.0.entries.items in
+    let new = c.stop_if.new.self.entries.items in
+    grows_on LOG_SEAT old mid new (grows_one LOG_SEAT Taken old mid refl c.take-batch.ensures.entries) (grows_on LOG_SEAT mid turned new c.turned-hosted.ensures.grows c.stop_if.ensures.grows)
 
-pub loop-preserved : goal.loop-preserved
-loop-preserved g c =
-    let n = c.args.by.0 in
-    let old = c.args.self.entries.items in
-    let mid = c.turned-next.result.0.entries.items in (
-      adds_more n old mid c.end_for.new.self.entries.items (adds_more n old c.loop.hosted.entries.items mid c.loop.invariant.0 c.turned-next.ensures.marks) c.end_for.ensures.marks,
-      c.end_for.ensures.first ∙ (c.turned-next.ensures.first ∙ c.loop.invariant.1),
-    )
+pub returns-clause-kept : goal.returns-clause-kept
+returns-clause-kept g c =
+    let mid = c.take-batch.new.self in
+    let keep = g.S.EpochServer.keeps c.turned-hosted.result.1 in
+    let turned = c.turned-hosted.result.0.entries.items in
+    kept_still keep (first_stage (g.S.EpochServer.standing c.args.self.first.value)) false c.has_failed-failed.result mid.commits turned c.stop_if.new.self.entries.items c.stop_if.ensures.taken
+    (λ _. refl)
+    (subst (λ f. ∥ IsKept keep (first_stage (g.S.EpochServer.standing f.value)) false mid.commits turned ∥₁) c.take-batch.ensures.first c.turned-hosted.ensures.kept)
+
+pub returns-clause-more : goal.returns-clause-more
+returns-clause-more g c =
+    let old = c.args.self in
+    let mid = c.take-batch.new.self in
+    less (g.S.EpochServer.keeps c.args.log) (g.S.EpochServer.keeps c.write.new.log) (g.S.EpochServer.brings c.take-batch.result) (first_stage (g.S.EpochServer.standing old.first.value)) c.args.total
+    mid.commits old.entries.items mid.entries.items c.requires.kept c.take-batch.ensures.brought (g.S.EpochServer.failed c.write.new.log) c.write.result

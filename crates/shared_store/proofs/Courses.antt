@@ -1,0 +1,81 @@
+-- From a stage a list of entries leads to one stage at most.
+use Rattle.std.proofs.Common.{◌≡◌, ℕ, suc, Bool, true, false, cond, ◌||◌, List, [], ◌∷◌, ◌++◌, All, refl, sym, ◌∙◌, ap, subst, arith}
+use Rattle.std.specs.List.{list_any}
+use Rattle.turn_lock.specs.Counts.{times}
+use Rattle.turn_lock.proofs.Counts.{same_yes}
+use Rattle.shared_store.specs.declared.entry.LifeEntry.{LifeEntry}
+use Rattle.shared_store.specs.declared.entry.LifeEntry.TheVariants.{Asked, Taken, Turned, Stopped}
+use Rattle.shared_store.specs.declared.entry.TheConstants.{LOG_SEAT}
+use Rattle.shared_store.specs.Served.{Standing, IsBegun}
+use Rattle.shared_store.specs.Stages.{Stage}
+use Rattle.shared_store.specs.Lives.{Runs, Step, is_taking, owner_of, taken_of}
+use Rattle.shared_store.proofs.Alone.{one_list}
+
+begun_once : (x y z : Standing) → IsBegun x y → IsBegun x z → y ≡ z
+begun_once x y z a b =
+    let rows = one_list y.store.rows z.store.rows a.rows.ascending b.rows.ascending (λ c. a.rows.each c ∙ sym (b.rows.each c)) in λ i. record {
+      store = record { setup = (a.setup ∙ sym b.setup) i; tables = (a.tables ∙ sym b.tables) i; rows = rows i };
+      events = (a.events ∙ sym b.events) i;
+    }
+
+step_once : (g h k : Stage) (e : LifeEntry) → Step g e h → Step g e k → h ≡ k
+step_once g h k (Asked by s q r) a b = a.next ∙ sym b.next
+step_once g h k Taken a b = a ∙ sym b
+step_once g h k Turned a b = let x = begun_once g.standing h.standing k.standing a.begun b.begun in
+    λ i. record { standing = x i; past = (a.past ∙ sym b.past) i; stopped = (a.runs.1 ∙ sym b.runs.1) i }
+step_once g h k Stopped a b = a ∙ sym b
+
+pub runs_once : (g h k : Stage) (es : List LifeEntry) → Runs g es h → Runs g es k → h ≡ k
+runs_once g h k [] a b = a ∙ sym b
+runs_once g h k (e ∷ es) a b = runs_once b.0 h k es (subst (λ (m : Stage). Runs m es h) (step_once g a.0 b.0 e a.1 b.1) a.2) b.2
+
+pub runs_on : (g h k : Stage) (xs ys : List LifeEntry) → Runs g xs h → Runs h ys k → Runs g (xs ++ ys) k
+runs_on g h k [] ys r q = subst (λ (m : Stage). Runs m ys k) r q
+runs_on g h k (x ∷ xs) ys r q = (r.0, r.1, runs_on r.0 h k xs ys r.2 q)
+
+-- what is behind the last taking changes nothing of it
+any_append : (xs ys : List LifeEntry) → list_any is_taking ys ≡ false → list_any is_taking (xs ++ ys) ≡ list_any is_taking xs
+any_append [] ys n = n
+any_append (x ∷ xs) ys n = ap (λ b. is_taking x || b) (any_append xs ys n)
+
+taken_none : (ys : List LifeEntry) → list_any is_taking ys ≡ false → taken_of ys ≡ []
+taken_none [] n = refl
+taken_none (y ∷ ys) n = ap (λ b. cond b (y ∷ taken_of ys) []) n
+
+pub taken_behind : (xs ys : List LifeEntry) → list_any is_taking ys ≡ false → taken_of (xs ++ ys) ≡ taken_of xs
+taken_behind [] ys n = taken_none ys n
+taken_behind (x ∷ xs) ys n = ap (λ (p : Bool × List LifeEntry). cond p.0 (x ∷ p.1) []) (λ i. (is_taking x || any_append xs ys n i, taken_behind xs ys n i))
+
+any_last : (xs : List LifeEntry) (e : LifeEntry) → is_taking e ≡ true → list_any is_taking (xs ++ e ∷ []) ≡ true
+any_last [] e t = ap (λ b. b || false) t
+any_last (x ∷ xs) e t = ap (λ b. is_taking x || b) (any_last xs e t) ∙ or_yes (is_taking x)
+  where
+    or_yes : (b : Bool) → b || true ≡ true
+    or_yes true = refl
+    or_yes false = refl
+
+-- and a taking takes all
+pub taken_all : (xs : List LifeEntry) (e : LifeEntry) → is_taking e ≡ true → taken_of (xs ++ e ∷ []) ≡ xs ++ e ∷ []
+taken_all [] e t = ap (λ b. cond (b || false) (e ∷ []) []) t
+taken_all (x ∷ xs) e t = ap (λ (p : Bool × List LifeEntry). cond p.0 (x ∷ p.1) []) (λ i. ((ap (λ b. is_taking x || b) (any_last xs e t) ∙ or_yes (is_taking x)) i, taken_all xs e t i))
+  where
+    or_yes : (b : Bool) → b || true ≡ true
+    or_yes true = refl
+    or_yes false = refl
+
+is_own : (n o : ℕ) → o ≡ n → times o (n ∷ []) ≡ 1
+is_own n o e = let one = same_yes o n e in omega arith
+
+not_taking : (e : LifeEntry) → times (owner_of e) (LOG_SEAT ∷ []) ≡ 0 → is_taking e ≡ false
+not_taking (Asked by s q r) z = refl
+not_taking Taken z = absurd (let one = is_own LOG_SEAT LOG_SEAT refl in omega arith)
+not_taking Turned z = absurd (let one = is_own LOG_SEAT LOG_SEAT refl in omega arith)
+not_taking Stopped z = refl
+
+-- entries of sessions take nothing
+pub others_take_none : (os : List ℕ) (es : List LifeEntry) → os ≡ LOG_SEAT ∷ [] → All (λ (e : LifeEntry). times (owner_of e) os ≡ 0) es → list_any is_taking es ≡ false
+others_take_none os [] o a = refl
+others_take_none os (e ∷ es) o a = ap (λ (p : Bool × Bool). p.0 || p.1) (λ i. (
+  not_taking e (subst (λ (ys : List ℕ). times (owner_of e) ys ≡ 0) o (a 0 e (omega arith))) i,
+  others_take_none os es o (λ k d l. a (suc k) d (omega arith)) i,
+))

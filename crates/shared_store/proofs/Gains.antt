@@ -1,0 +1,49 @@
+-- What a call makes of a session.
+use Rattle.std.proofs.Common.{◌≡◌, List, [], ◌∷◌, ◌++◌, append_assoc, ◌∙◌, ap, subst}
+use Rattle.teb_names.specs.declared.Reply.{Reply as TheReply}
+use Rattle.teb_names.specs.declared.Request.{Request}
+use Rattle.teb_names.specs.declared.Session.{Session}
+use Rattle.turn_lock.specs.declared.view.View.{View}
+use Rattle.shared_store.specs.declared.entry.LifeEntry.{LifeEntry}
+use Rattle.shared_store.specs.declared.entry.LifeEntry.TheVariants.{Asked}
+use Rattle.shared_store.specs.declared.answer.Answer.{Answer}
+use Rattle.shared_store.specs.declared.answer.Answer.TheVariants as answer
+use Rattle.shared_store.specs.declared.reply.StoreReply.TheVariants.{Reply, Later, Ended}
+use Rattle.shared_store.specs.Stages.{Stage}
+use Rattle.shared_store.specs.Lives.{LeadsTo}
+use Rattle.shared_store.specs.Gaining.{Sees, SeesCall, SeesMarks}
+
+-- marks, and then what is seen by an answer
+module _ (b : Stage) (s : Session) (u v w : View LifeEntry Stage) (m : SeesMarks s.0 u v) where
+  marks_on : SeesMarks s.0 v w → SeesMarks s.0 u w
+  marks_on n = record { more = m.more ++ n.more; is = n.is ∙ (ap (λ (l : List LifeEntry). l ++ n.more) m.is ∙ append_assoc u.seen m.more n.more); calls = n.calls ∙ m.calls }
+
+  call_on : (q : Request) (r : TheReply) → SeesCall b s q r v w → SeesCall b s q r u w
+  call_on q r n = record {
+    between = m.more ++ n.between;
+    short = n.short;
+    stage = n.stage;
+    is = n.is ∙ ap (λ (l : List LifeEntry). l ++ Asked s s q n.short ∷ []) before;
+    leads = subst (λ (l : List LifeEntry). LeadsTo b l n.stage) before n.leads;
+    reply = n.reply;
+    short_of = n.short_of;
+    calls = n.calls ∙ ap (λ (l : List LifeEntry). l ++ Asked s s q n.short ∷ []) m.calls;
+  }
+    where
+      before : v.seen ++ n.between ≡ u.seen ++ (m.more ++ n.between)
+      before = ap (λ (l : List LifeEntry). l ++ n.between) m.is ∙ append_assoc u.seen m.more n.between
+
+  pub sees_on : (q : Request) (r : Answer) → Sees b s q r v w → Sees b s q r u w
+  sees_on q (answer.Reply (Reply r) n) a = call_on q r a
+  sees_on q (answer.Reply Later n) a = marks_on a
+  sees_on q (answer.Reply (Ended r) n) a = marks_on a
+  sees_on q answer.Ending a = marks_on a
+  sees_on q (answer.Unasked f) a = marks_on a
+
+-- what is seen by an answer that is known
+module _ (b : Stage) (s : Session) (q : Request) (v w : View LifeEntry Stage) (o : Answer) (h : Sees b s q o v w) where
+  at : (p : Answer) → o ≡ p → Sees b s q p v w
+  at p e = subst (λ (a : Answer). Sees b s q a v w) e h
+
+  pub sees_ending : o ≡ answer.Ending → SeesMarks s.0 v w
+  sees_ending e = at answer.Ending e

@@ -1,0 +1,10 @@
+-- What holds of a result, by its variant.
+use Rattle.std.proofs.Common.{◌≡◌, Result, Ok, Err, subst}
+use Rattle.std.specs.Prelude.{OnOk, OnErr}
+
+module _ {A B : Type 0} (P : Type 0) (o : Result A B) where
+  pub on_ok : (a : A) → o ≡ Ok a → OnOk o P → P
+  on_ok a e h = subst (λ (p : Result A B). OnOk p P) e h
+
+  pub on_err : (b : B) → o ≡ Err b → OnErr o P → P
+  on_err b e h = subst (λ (p : Result A B). OnErr p P) e h
