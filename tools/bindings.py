@@ -8,7 +8,7 @@
     tools/bindings.py --figures         the two figures count as well: they are to be within their bounds, on a machine that is idle
 
 It builds bindings/out/libtebaldi.a and libtebaldi.so, and then counts: the C tests and examples under the address and undefined behaviour
-sanitizers, the tests and examples in Rust and in Python, four threads over one store in each language, a program over a file in each language
+sanitizers, the memory of a store in a file over 200,000 commits, the tests and examples in Rust and in Python, four threads over one store in each language, a program over a file in each language
 that is killed again and again, the programs of README.md, and each worked run of `replay` in each language. It prints two figures: what an ask costs from C, and a transfer from Python. If a program is missing, it is named with the apt package that has it, and what
 needs it has failed.
 """
@@ -126,6 +126,11 @@ def try_c(tally):
     if program:
         with tempfile.TemporaryDirectory() as folder:
             tally.count("C file", why_of(run(program, folder), r"file: \d+ as wanted, 0 not\n"))
+    program = compiled(tally, C / "tests" / "level.c", [*WARNINGS, "-O2"])
+    if program:
+        ran = run(program)
+        if tally.count("C level", why_of(ran, r"200000 commits, \d+ KiB at epoch 5, -?\d+ KiB more at the end\n")):
+            print(f"bindings: a store in a file from C: {ran.stdout.decode()}", end="", flush=True)
     try_kills(tally, "C", [compiled(tally, C / "examples" / "bank.c", [*WARNINGS, "-O2"])])
     for source in sorted((C / "examples").glob("*.out")):
         program = compiled(tally, source.with_suffix(".c"))

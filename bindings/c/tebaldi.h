@@ -243,6 +243,11 @@ uint32_t tebaldi_rows(struct tebaldi_store *store, struct tebaldi_row *out, size
 /* Reads the event at a place of the history; place 0 is the oldest. TEBALDI_NOT_OPEN; TEBALDI_NO_SUCH past the last event. */
 uint32_t tebaldi_event(struct tebaldi_store *store, size_t place, struct tebaldi_event *event);
 
+/* Copies as much of the printed run of the present epoch as fits to `out`, with no 0 after it: its starting rows, events, serial order and final
+ * rows, as `tebaldi threads` prints them; `*len` is the length of the whole text. tebaldi_audit accepts the whole text. Ask with a room of 0
+ * for the length first. TEBALDI_NOT_OPEN, TEBALDI_OUT_OF_MEMORY. */
+uint32_t tebaldi_run_text(struct tebaldi_store *store, uint8_t *out, size_t room, size_t *len);
+
 /* Checks a printed run, as `tebaldi audit` does. TEBALDI_TOO_LONG, TEBALDI_OUT_OF_MEMORY.
  * At TEBALDI_BAD_RUN `*line` is the number of the first wrong line, from 1, and `*why` says why. */
 uint32_t tebaldi_audit(const uint8_t *text, size_t text_len, uint32_t *line, uint8_t *why);

@@ -45,6 +45,7 @@ static void closed_store(void)
     EXPECT(tebaldi_line(&store, 1, &reply, text, sizeof text, &len), TEBALDI_NOT_OPEN);
     EXPECT(tebaldi_order(&store, order, 2, &len), TEBALDI_NOT_OPEN);
     EXPECT(tebaldi_rows(&store, rows, 1, &len), TEBALDI_NOT_OPEN);
+    EXPECT(tebaldi_run_text(&store, text, sizeof text, &len), TEBALDI_NOT_OPEN);
     EXPECT(tebaldi_event(&store, 0, &event), TEBALDI_NOT_OPEN);
     EXPECT(tebaldi_next_epoch(&store, text, 0, text + 1, sizeof text - 1, &len, order), TEBALDI_NOT_OPEN);
     EXPECT(len, 77);
@@ -158,6 +159,22 @@ static void epochs(void)
     EXPECT((uint32_t)rows[0].value, 4);
 }
 
+/* The printed run of the present epoch, which began with one row. */
+static void run_texts(void)
+{
+    static const char begun[] = "start t 7 4\norder\nrow t 7 4\nend\n";
+    uint8_t run[64] = {0}, why = 7;
+    uint32_t line = 7;
+    memset(text, '.', sizeof text);
+    EXPECT(tebaldi_run_text(&store, text, 5, &len), TEBALDI_OK);
+    EXPECT(len, sizeof begun - 1);
+    EXPECT(memcmp(text, "start.", 6) != 0, 0);
+    EXPECT(tebaldi_run_text(&store, run, sizeof run, &len), TEBALDI_OK);
+    EXPECT(memcmp(run, begun, sizeof begun) != 0, 0);
+    EXPECT(tebaldi_audit(run, len, &line, &why), TEBALDI_OK);
+    EXPECT(tebaldi_audit(run, 5, &line, &why), TEBALDI_BAD_RUN);
+}
+
 int main(void)
 {
     struct tebaldi_version version = {0};
@@ -172,6 +189,7 @@ int main(void)
     bad_replies();
     bad_runs();
     epochs();
+    run_texts();
     tebaldi_close(&store);
     tebaldi_close(&store);
     EXPECT(tebaldi_ask(&store, 1, &request, &reply), TEBALDI_NOT_OPEN);

@@ -92,6 +92,12 @@ static void run(void)
     TWICE(tebaldi_rows(&store, rows, 240, &len));
     for (size_t i = 0; i < len; i++)
         tell(&rows[i].table, 1), tell(&rows[i].key, 4), tell(&rows[i].value, 8);
+    static uint8_t text[8192];
+    uint32_t line = 0;
+    uint8_t why = 0;
+    TWICE(tebaldi_run_text(&store, text, sizeof text, &len));
+    tell(text, len), tell(&len, sizeof len);
+    TWICE(tebaldi_audit(text, len, &line, &why));
     for (uint8_t session = 1; session <= 4; session++) {
         struct tebaldi_request request = {.verb = TEBALDI_END};
         TWICE(tebaldi_ask(&store, session, &request, &reply));
@@ -101,8 +107,6 @@ static void run(void)
     TWICE(tebaldi_rows(&store, rows, 240, &len));
     tell(&len, sizeof len);
     tebaldi_close(&store);
-    uint32_t line = 0;
-    uint8_t why = 0;
     TWICE(tebaldi_audit((const uint8_t *)run_text, sizeof run_text - 1, &line, &why));
 }
 

@@ -85,6 +85,7 @@ def load() -> ctypes.CDLL:
         ("line", [store, c_uint8, POINTER(RawReply), byte, c_size_t, size], c_uint32),
         ("order", [store, POINTER(c_uint32), c_size_t, size], c_uint32),
         ("rows", [store, POINTER(RawRow), c_size_t, size], c_uint32),
+        ("run_text", [store, byte, c_size_t, size], c_uint32),
         ("event", [store, c_size_t, POINTER(RawEvent)], c_uint32),
         ("file_open", [file, c_char_p, c_char_p, c_size_t, byte, c_size_t, size, POINTER(c_uint64)], c_uint32),
         ("file_next_epoch", [file, c_char_p, c_size_t, byte, c_size_t, size, POINTER(c_uint32)], c_uint32),

@@ -287,6 +287,10 @@ class Store:
         tables = {number: self.name("table", number) for number in {row.table for row in rows}}
         return [(tables[row.table], row.key, row.value) for row in rows]
 
+    def run_text(self) -> str:
+        """Returns the printed run of the present epoch: its starting rows, events, serial order and final rows. audit() accepts it."""
+        return bytes(self._filled(LIBRARY.tebaldi_run_text, c_uint8)).decode()
+
     def events(self) -> Iterator[Event]:
         """Goes over the history, the oldest event first. Events that happen meanwhile are part of it."""
         place, raw = 0, native.RawEvent()

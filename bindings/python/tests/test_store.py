@@ -153,6 +153,24 @@ class StoreTest(unittest.TestCase):
         self.assertEqual((caught.exception.line, caught.exception.why), (1, "order"))
         self.assertEqual(tebaldi.version()[0], 1)
 
+    def test_the_audit_accepts_the_run_of_each_epoch(self) -> None:
+        self.assertEqual(self.store.run_text(), "start account 1 100\norder\nrow account 1 100\nend\n")
+        for value in range(40):
+            with self.store.transaction("transfer") as t:
+                t.write("account", value % 7, (t.read("account", value % 5) or 0) + value)
+            with self.store.transaction("transfer") as t:
+                t.write("account", 9, value)
+                t.abort()
+        run = self.store.run_text()
+        tebaldi.audit(run)
+        with self.assertRaises(BadRun) as caught:
+            tebaldi.audit(run.replace("start account 1 100", "start account 1 101"))
+        self.assertEqual(caught.exception.why, "read")
+        self.store.next_epoch()
+        starts = "".join(f"start {table} {key} {value}\n" for table, key, value in self.store.rows())
+        self.assertEqual(self.store.run_text(), starts + "order\n" + starts.replace("start", "row") + "end\n")
+        tebaldi.audit(self.store.run_text())
+
     def test_structs_have_their_sizes(self) -> None:
         forms = [_native.RawStore, _native.RawRequest, _native.RawCause, _native.RawReply, _native.RawEvent, _native.RawRow]
         self.assertEqual([ctypes.sizeof(form) for form in forms], [16, 24, 24, 184, 56, 16])

@@ -225,5 +225,11 @@ extern "C" {
         len: *mut usize,
     ) -> u32;
     pub fn tebaldi_event(store: *mut RawStore, place: usize, event: *mut RawEvent) -> u32;
+    pub fn tebaldi_run_text(
+        store: *mut RawStore,
+        out: *mut u8,
+        room: usize,
+        len: *mut usize,
+    ) -> u32;
     pub fn tebaldi_audit(text: *const u8, text_len: usize, line: *mut u32, why: *mut u8) -> u32;
 }

@@ -354,6 +354,30 @@ impl Store {
             .collect())
     }
 
+    /// The printed run of the present epoch: its starting rows, events, serial order and final rows, as `tebaldi threads` prints them.
+    /// [`audit`] accepts it.
+    ///
+    /// # Errors
+    /// [`Error::OutOfMemory`].
+    ///
+    /// ```
+    /// let store = tebaldi::Store::open("")?;
+    /// let (t, any) = (store.table("t")?, store.kind("any")?);
+    /// store.run(&mut store.session()?, any, |txn| txn.write(t, 7, 4))?;
+    /// let run = store.run_text()?;
+    /// assert_eq!(run, "began t1 1 any\nput t1 t 7 4\ndone t1\norder t1\nrow t 7 4\nend\n");
+    /// assert_eq!(tebaldi::audit(&run), Ok(()));
+    /// # Ok::<(), tebaldi::Error>(())
+    /// ```
+    pub fn run_text(&self) -> Result<String, Error> {
+        let mut state = self.shared.lock();
+        // SAFETY: as in `order`.
+        let bytes = filled(|out: *mut u8, room, len| unsafe {
+            ffi::tebaldi_run_text(&mut state.raw.store, out, room, len)
+        })?;
+        Ok(text(&bytes, bytes.len()))
+    }
+
     /// The event at a place of the history, or `None` past the last one. Place 0 is the oldest.
     pub fn event(&self, place: usize) -> Option<Event> {
         let mut raw = RawEvent::default();

@@ -166,6 +166,29 @@ fn scans_adds_and_deletes() {
 }
 
 #[test]
+fn the_audit_accepts_the_run_of_each_epoch() {
+    let (store, t, any) = blank();
+    assert_eq!(store.run_text().as_deref(), Ok("order\nend\n"));
+    let (mut first, mut second) = (store.session().unwrap(), store.session().unwrap());
+    for value in 0..50 {
+        let _ = first.run(any, |txn| txn.write(t, value % 7, i64::from(value)));
+        let mut open = second.begin(any).unwrap();
+        open.read(t, value % 5).unwrap();
+        if value % 3 == 0 {
+            open.commit().unwrap();
+        }
+    }
+    let run = store.run_text().unwrap();
+    assert_eq!(tebaldi::audit(&run), Ok(()));
+    let wrong = run.replacen("\nput t1 t 0 0\n", "\nput t1 t 0 1\n", 1);
+    assert!(matches!(tebaldi::audit(wrong), Err(Error::BadRun { .. })));
+    store.next_epoch("").unwrap();
+    let next = store.run_text().unwrap();
+    assert!(next.starts_with("start t 0 49\n") && next.ends_with("order\nrow t 0 49\nrow t 1 43\nrow t 2 44\nrow t 3 45\nrow t 4 46\nrow t 5 47\nrow t 6 48\nend\n"));
+    assert_eq!(tebaldi::audit(next), Ok(()));
+}
+
+#[test]
 fn an_epoch_waits_for_its_transactions() {
     let (store, t, any) = blank();
     let mut session = store.session().unwrap();

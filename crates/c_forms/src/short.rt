@@ -4,41 +4,45 @@ ghost use Rattle.std.specs.Prelude.{◌≡◌};
 ghost use Rattle.short_reply.specs.ShortReplies.{full_reply};
 ghost use Rattle.c_forms.specs.Replies.{reply_form};
 
-use crate::causes::cause_form;
-use crate::replies::{ReplyForm, blank, refusal_number};
+use crate::causes::{CauseForm, cause_form};
+use crate::replies::{ReplyForm, refusal_number};
 use short_reply::ShortReply;
 
-/// Writes the form of a reply without the values of a scan. It is written in place, since a form takes 184 bytes.
+/// Writes the form of a reply without the values of a scan. It is written in place, since a form takes 184 bytes, of which most are
+/// zeros already.
 #[inline(always)]
 pub fn put_short_form(form: &mut ReplyForm, reply: &ShortReply)
     ensures { form.new ≡ reply_form (full_reply reply.now) }
 {
-    *form = blank(kind_of(reply));
-    match *reply {
-        ShortReply::Begun(txn) => form.txn = txn.0,
-        ShortReply::Value(value) => form.values.push(value),
-        ShortReply::Done | ShortReply::Prepared | ShortReply::Committed => {}
+    form.refusal = 0;
+    form.node = 0;
+    form.txn = 0;
+    form.cause = CauseForm::none();
+    form.values.clear();
+    match reply {
+        ShortReply::Begun(txn) => {
+            form.kind = 1;
+            form.txn = txn.0;
+        }
+        ShortReply::Value(value) => {
+            form.kind = 2;
+            form.values.push(*value);
+        }
+        ShortReply::Done => form.kind = 4,
+        ShortReply::Prepared => form.kind = 5,
+        ShortReply::Committed => form.kind = 6,
         ShortReply::Again { who, node } => {
+            form.kind = 7;
             form.txn = who.0;
             form.node = node.0;
         }
-        ShortReply::Aborted(cause) => form.cause = cause_form(&cause),
-        ShortReply::Refused(why) => form.refusal = refusal_number(why),
-    }
-}
-
-#[inline(always)]
-fn kind_of(reply: &ShortReply) -> u8
-    ensures { result ≡ (reply_form (full_reply reply.now)).kind }
-{
-    match reply {
-        ShortReply::Begun(_) => 1,
-        ShortReply::Value(_) => 2,
-        ShortReply::Done => 4,
-        ShortReply::Prepared => 5,
-        ShortReply::Committed => 6,
-        ShortReply::Again { .. } => 7,
-        ShortReply::Aborted(_) => 8,
-        ShortReply::Refused(_) => 9,
+        ShortReply::Aborted(cause) => {
+            form.kind = 8;
+            form.cause = cause_form(cause);
+        }
+        ShortReply::Refused(why) => {
+            form.kind = 9;
+            form.refusal = refusal_number(*why);
+        }
     }
 }

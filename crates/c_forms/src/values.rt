@@ -46,6 +46,16 @@ impl ValueList {
         }
     }
 
+    /// Drops all values.
+    #[inline(always)]
+    pub fn clear(&mut self)
+        ensures { self.new ≡ [] }
+    {
+        if self.len > 0 {
+            *self = ValueList::new();
+        }
+    }
+
     /// Returns one value.
     pub fn of(value: Option<i64>) -> Self
         ensures { result ≡ value ∷ [] }
@@ -75,7 +85,7 @@ impl ValueList {
     }
 
     /// Returns the value at a place, from 0.
-    #[tactic(auto, using(crate::proofs::Padding::read_joined))]
+    #[tactic(auto, using(teb_names::proofs::Padding::read_joined))]
     pub fn at(&self, i: usize) -> Option<i64>
         requires { i < length self.now }
         ensures { slice_get self.now i ≡ Some result }

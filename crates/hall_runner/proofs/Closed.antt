@@ -1,5 +1,5 @@
 -- A hall that was closed: its engine's history is a run over the setup's store, and what is printed of it is shown.
-use Rattle.std.proofs.Common.{◌≡◌, ◌≢◌, ℕ, List, [], Some, slice_get, refl, sym, ◌∙◌, ap, subst}
+use Rattle.std.proofs.Common.{◌≡◌, ◌≢◌, ℕ, List, [], length, Some, slice_get, refl, sym, ◌∙◌, ap, subst}
 use Rattle.teb_names.specs.declared.Entry.{Entry}
 use Rattle.teb_names.specs.declared.Session.{Session}
 use Rattle.teb_names.specs.declared.naming.NameBook.{NameBook}
@@ -10,21 +10,27 @@ use Rattle.teb_rules.specs.Serializes.{Serializes}
 use Rattle.teb_rules.specs.Run.{IsLegal, history_of, requests_of}
 use Rattle.teb_rules.specs.Scripts.{IsWalk, entries_of}
 use Rattle.script_text.specs.declared.Line.{Line}
-use Rattle.script_text.specs.declared.Answered.{Answered}
 use Rattle.script_walk.specs.ScriptStates.{requests_on}
 use Rattle.replay_runner.specs.Logs.{log_of}
-use Rattle.store_setup.specs.SetupView.{SetupView}
-use Rattle.store_setup.specs.Sound.{HasNames}
 use Rattle.audit_check.specs.Audit.{IsAudited}
 use Rattle.command_output.specs.Shown.{Shown}
 use Rattle.store_setup.specs.Stores.{store_of_view}
-use Rattle.input_runner.specs.Runs.{IsReportAfter, IsRunOver}
+use Rattle.printed_run.specs.Printed.{IsNamedBy, IsPrintedRun}
+use Rattle.input_runner.specs.Runs.{IsRunOver}
 use Rattle.input_runner.proofs.Runs.{is_serialized}
-use Rattle.hall_runner.specs.Served.{AreServed, lines_of_run}
+use Rattle.hall_runner.specs.Served.{AreServed}
 use Rattle.hall_runner.specs.Outcomes.{AreSetUp, IsSerializedOver}
 
 abbrev IsPrinted : Store → NameBook → List Event → Shown → Type 0
-IsPrinted X names H o = (o.status ≡ 0) × (o.history ≡ Some H) × IsReportAfter (lines_of_run X names H) X names H o.text
+IsPrinted X names H o = (o.status ≡ 0) × (o.history ≡ Some H) × IsPrintedRun X names H o.text
+
+-- all that a setup has has a name
+named_by : (X : Store) (names : NameBook) → AreSetUp X names → IsNamedBy X names
+named_by X names s = record {
+  nodes = ap (λ (Y : Store). length Y.setup.tree) s.store ∙ s.nodes ∙ sym (ap (λ (b : NameBook). length b.nodes) s.named);
+  are = rw s.named (record { tables = s.has_names.tables; types = s.has_names.types; nodes = s.has_names.nodes });
+  differ = rw s.named s.has_names.tables_differ;
+}
 
 -- an engine over the store Y, with the names and the history of a hall over X that was closed
 module _ (X Y : Store) (names book : NameBook) (setup : AreSetUp X names) (entries : List Entry) (H : List Event) (store : Y ≡ X) (named : book ≡ names) (history : H ≡ history_of Y entries) where
@@ -39,8 +45,8 @@ module _ (X Y : Store) (names book : NameBook) (setup : AreSetUp X names) (entri
     events = history;
   }
 
-  pub run_of : (s : SetupView) × (log : List Answered) × HasNames s × IsRunOver s Y book log H
-  run_of = (setup.setup, log_of Y [] (requests_of entries), setup.has_names, over)
+  pub all_named : IsNamedBy Y book
+  all_named = rw (store, named) (named_by X names setup)
 
   pub serialized_over : (o : Shown) → o.history ≡ Some H → IsSerializedOver X o.history
   serialized_over o kept =
@@ -56,7 +62,8 @@ module _ (X Y : Store) (names book : NameBook) (setup : AreSetUp X names) (entri
   are_served scripts o legal walks others printed audited =
       let same : H ≡ history_of X entries = history ∙ ap (λ (Z : Store). history_of Z entries) store in
       let all : IsPrinted X names (history_of X entries) o =
-      subst (λ (Z : Store). IsPrinted Z names (history_of X entries) o) store (subst (λ (b : NameBook). IsPrinted Y b (history_of X entries) o) named (subst (λ (G : List Event). IsPrinted Y book G o) same printed)) in
+      subst (λ (Z : Store). IsPrinted Z names (history_of X entries) o) store
+      (subst (λ (b : NameBook). IsPrinted Y b (history_of X entries) o) named (subst (λ (G : List Event). IsPrinted Y book G o) same printed)) in
       record {
         legal = subst (λ (Z : Store). IsLegal Z entries) store legal;
         walks = walks;

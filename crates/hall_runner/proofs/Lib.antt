@@ -1,5 +1,3 @@
-mod Audited
 mod Closed
 mod Walks
-mod Written
 mod Spending

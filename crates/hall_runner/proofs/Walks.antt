@@ -61,7 +61,8 @@ module _ {C : Type 0} {g : Ghosts C} (h : Hall C g) (scripts : Scripted) (entrie
       let walk = p.2.0.walk i lines (subst (λ (t : Session). slice_get scripts i ≡ Some (t, lines)) (sym p.1) is) in
       subst (λ (t : Session). IsWalk (requests_on lines) (entries_of t.0 entries)) p.1 (subst (IsWalk (requests_on lines)) (sym p.2.1.mine) walk)
 
-  pub others_of : All (λ (e : Entry). (1 ≤ e.session.0) × (e.session.0 ≤ SESSIONS)) entries → (s : Session) → ((i : ℕ) (lines : List Line) → slice_get scripts i ≢ Some (s, lines)) → entries_of s.0 entries ≡ []
+  pub others_of : All (λ (e : Entry). (1 ≤ e.session.0) × (e.session.0 ≤ SESSIONS)) entries → (s : Session) → ((i : ℕ) (lines : List Line) → slice_get scripts i ≢ Some (s, lines))
+      → entries_of s.0 entries ≡ []
   others_of bounds s none = elim (cases_lt 0 s.0) [
     | inr l ↦ none_outside s.0 entries bounds (λ w. omega (arith, w.0, l))
     | inl l ↦ elim (cases_lt SESSIONS s.0) [

@@ -1,14 +1,12 @@
 -- Runs over the store of a whole setup: what they name has a name, and their serial order serializes them.
-use Rattle.std.proofs.Common.{◌≡◌, ℕ, Option, List, [], ◌∷◌, ◌++◌, length, reverse, Some, refl, sym, ◌∙◌, ap, ap₂, subst, subst₂, ℤ}
+use Rattle.std.proofs.Common.{◌≡◌, ℕ, Option, List, [], ◌∷◌, ◌++◌, length, Some, refl, sym, ◌∙◌, ap, ap₂, subst, subst₂}
 use Rattle.std.specs.Prelude.{All, ◌≤◌}
-use Rattle.teb_names.specs.declared.Cell.{Cell}
 use Rattle.teb_names.specs.declared.Entry.{Entry}
 use Rattle.teb_names.specs.declared.Session.{Session}
 use Rattle.teb_names.specs.declared.Reply.{Reply}
 use Rattle.teb_names.specs.declared.naming.NameBook.{NameBook}
 use Rattle.teb_history.specs.declared.Event.{Event}
-use Rattle.teb_rules.specs.Setup.{Store, Setup}
-use Rattle.teb_rules.specs.Accepted.{IsSound}
+use Rattle.teb_rules.specs.Setup.{Store}
 use Rattle.teb_rules.specs.Answer.{answer}
 use Rattle.teb_rules.specs.Run.{history_after, requests_of}
 use Rattle.teb_rules.specs.Driver.{Seat, Follows, Turns, round_after, seated}
@@ -16,14 +14,11 @@ use Rattle.driver_laws.specs.Laws.{most_requests}
 use Rattle.teb_rules.specs.Ranks.{serial_order}
 use Rattle.teb_rules.specs.Serializes.{Serializes}
 use Rattle.teb_laws.specs.Within.{ReplyWithin}
-use Rattle.teb_laws.proofs.Within.{stays_within}
 use Rattle.teb_laws.proofs.Laws.{every_run_serializes}
-use Rattle.serial_order.specs.Tables.{IsFinalRows}
-use Rattle.serial_order.proofs.Within.{row_within, rows_within}
 use Rattle.script_text.specs.declared.Line.{Line}
 use Rattle.script_text.specs.declared.Answered.{Answered}
 use Rattle.script_text.specs.Scripts.{scripts_of}
-use Rattle.script_text.specs.Named.{CellNamed, EventNamed, ReplyNamed}
+use Rattle.script_text.specs.Named.{ReplyNamed}
 use Rattle.replay_runner.specs.Logs.{Requests, log_of, replayed}
 use Rattle.replay_runner.proofs.Logged.{history_none}
 use Rattle.replay_runner.proofs.Within.{log_within}
@@ -33,7 +28,9 @@ use Rattle.store_setup.specs.SetupView.{SetupView}
 use Rattle.store_setup.specs.Sound.{IsWhole, IsNamed}
 use Rattle.store_setup.specs.Stores.{store_of_view, names_of}
 use Rattle.input_reader.specs.Tasks.{Task}
-use Rattle.input_runner.proofs.Names.{reply_named, all_named}
+use Rattle.printed_run.specs.Histories.{IsHistoryOver}
+use Rattle.printed_run.proofs.Names.{reply_named}
+use Rattle.printed_run.proofs.Histories.{history_is, sound}
 use Rattle.engine_core.specs.EngineModel.{EngineModel}
 use Rattle.command_output.specs.Shown.{Shown}
 use Rattle.input_runner.specs.Runs.{AreTurns, HasRun, IsReplay, IsRun, IsRunOver, IsSerialized, Run, Says}
@@ -47,18 +44,10 @@ follows_log X H ws (e ∷ entries) f =
     (follows_log X (answer X H e.session e.request).1 (round_after f.0 e.reply) entries f.5)
 
 module _ (m : SetupView) (whole : IsWhole m) (named : IsNamed m) where
-  pub sound : IsSound (store_of_view m).setup
-  sound = subst (λ (types : ℕ). let S : Setup = record { types = types; profiles = m.profiles; tree = m.tree.rows } in IsSound S) (sym whole.types) whole.sound
-
   log_named : (asked : Requests) → All (λ (a : Answered). ReplyNamed (names_of m) a.reply) (log_of (store_of_view m) [] asked)
   log_named asked k d low =
-      reply_named m whole named _ (subst (λ (H : List Event). All (λ (a : Answered). ReplyWithin (store_of_view m) a.reply) (log_of (store_of_view m) H asked)) (history_none (store_of_view m) []) (log_within (store_of_view m) sound [] asked) k d low)
-
-  final_rows : (asked : Requests) (rows : List (Cell × ℤ)) → IsFinalRows (store_of_view m) (history_after (store_of_view m) [] asked) rows → All (λ (r : Cell × ℤ). CellNamed (names_of m) r.0) rows
-  final_rows asked rows f = rows_within (store_of_view m) (history_after (store_of_view m) [] asked) rows (λ x v. row_within (length m.tables) m.rows x v whole.cells) (stays_within (store_of_view m) sound asked).events f
-
-  events_are_named : (asked : Requests) → All (EventNamed (names_of m)) (reverse (history_after (store_of_view m) [] asked))
-  events_are_named asked = all_named m whole named _ (stays_within (store_of_view m) sound asked).events
+      reply_named m whole named _ (subst (λ (H : List Event). All (λ (a : Answered). ReplyWithin (store_of_view m) a.reply) (log_of (store_of_view m) H asked)) (history_none (store_of_view m) [])
+      (log_within (store_of_view m) (sound m whole) [] asked) k d low)
 
 -- of such a run: what its replies and final rows name has a name, and it is serialized
 module _ (m : SetupView) (X : Store) (names : NameBook) (log : List Answered) (H : List Event) (over : IsRunOver m X names log H) where
@@ -68,26 +57,18 @@ module _ (m : SetupView) (X : Store) (names : NameBook) (log : List Answered) (H
       subst (λ (k : NameBook). All (λ (a : Answered). ReplyNamed k a.reply) now) (sym (b ∙ over.named))
       (subst (λ (w : List Answered). All (λ (a : Answered). ReplyNamed (names_of m) a.reply) w) (sym (l ∙ r)) (log_named m over.whole over.nodes over.asked))
 
-  pub rows_named : (rows : List (Cell × ℤ)) → IsFinalRows X H rows → All (λ (r : Cell × ℤ). CellNamed names r.0) rows
-  rows_named rows f =
-      let g = subst (λ (Y : Store). IsFinalRows Y (history_after Y [] over.asked) rows) over.store (subst (λ (G : List Event). IsFinalRows X G rows) over.events f) in
-      subst (λ (k : NameBook). All (λ (r : Cell × ℤ). CellNamed k r.0) rows) (sym over.named) (final_rows m over.whole over.nodes over.asked rows g)
-
-  pub events_named : All (EventNamed names) (reverse H)
-  events_named =
-      let e : H ≡ history_after (store_of_view m) [] over.asked = subst (λ (Y : Store). H ≡ history_after Y [] over.asked) over.store over.events in
-      rw (e, over.named) (events_are_named m over.whole over.nodes over.asked)
-
-  pub starts_named : All (λ (r : Cell × ℤ). CellNamed names r.0) X.rows
-  starts_named = rw (over.store, over.named) over.whole.cells
+  -- its history is one of the setup's store
+  abbrev pub history_over : IsHistoryOver m X names H
+  history_over = record { whole = over.whole; nodes = over.nodes; store = over.store; named = over.named; reached = (over.asked, over.events) }
 
   serialized : Serializes (store_of_view m) H (serial_order (store_of_view m).setup H)
   serialized =
-      let e : H ≡ history_after (store_of_view m) [] over.asked = subst (λ (Y : Store). H ≡ history_after Y [] over.asked) over.store over.events in
-      subst (λ (G : List Event). Serializes (store_of_view m) G (serial_order (store_of_view m).setup G)) (sym e) (every_run_serializes (store_of_view m) (sound m over.whole over.nodes) over.asked)
+      subst (λ (G : List Event). Serializes (store_of_view m) G (serial_order (store_of_view m).setup G)) (sym (history_is m X names H history_over))
+      (every_run_serializes (store_of_view m) (sound m over.whole) over.asked)
 
 -- what is put out of a run, where its text says so
-pub is_run : (R : Run) (S : Says) (Tells : NameBook → List Answered → Type 0) (task : Task) (e : EngineModel) (d : Shown) (text : List ℕ) (run : HasRun R Tells task e) → S e.store e.names e.events run.answers text
+pub is_run : (R : Run) (S : Says) (Tells : NameBook → List Answered → Type 0) (task : Task) (e : EngineModel) (d : Shown) (text : List ℕ) (run : HasRun R Tells task e)
+    → S e.store e.names e.events run.answers text
     → d ≡ record { status = 0; text = text; history = Some e.events } → IsRun R S task d
 is_run R S Tells task e d text run said put = record {
   log = run.answers;
@@ -100,11 +81,13 @@ is_run R S Tells task e d text run said put = record {
 }
 
 -- so the history that was kept of it is serialized
-pub is_serialized : (m : SetupView) (X : Store) (names : NameBook) (log : List Answered) (H : List Event) (history : Option (List Event)) → IsRunOver m X names log H → history ≡ Some H → IsSerialized (λ (s : SetupView). m ≡ s) history
+pub is_serialized : (m : SetupView) (X : Store) (names : NameBook) (log : List Answered) (H : List Event) (history : Option (List Event)) → IsRunOver m X names log H → history ≡ Some H
+    → IsSerialized (λ (s : SetupView). m ≡ s) history
 is_serialized m X names log H history over kept = rw kept (m, refl, serialized m X names log H over)
 
 -- an engine's replies and history, where its store is the setup's, are a run over it
-module _ (m : SetupView) (X Y : Store) (names : NameBook) (log : List Answered) (H : List Event) (whole : IsWhole m) (nodes : IsNamed m) (store : X ≡ store_of_view m) (kept : Y ≡ X) (named : names ≡ names_of m) where
+module _ (m : SetupView) (X Y : Store) (names : NameBook) (log : List Answered) (H : List Event) (whole : IsWhole m) (nodes : IsNamed m) (store : X ≡ store_of_view m) (kept : Y ≡ X)
+    (named : names ≡ names_of m) where
   run_over : (asked : Requests) → log ≡ log_of X [] asked → H ≡ history_after X [] asked → IsRunOver m Y names log H
   run_over asked replies events = record {
     whole = whole;
@@ -116,9 +99,11 @@ module _ (m : SetupView) (X Y : Store) (names : NameBook) (log : List Answered) 
     events = rw kept events;
   }
 
-  pub replay_over : (old : List Answered) (G : List Event) (lines : List Line) → old ≡ [] → G ≡ [] → log ≡ old ++ log_of X G (replayed X G lines) → H ≡ history_after X G (replayed X G lines) → IsRunOver m Y names log H
+  pub replay_over : (old : List Answered) (G : List Event) (lines : List Line) → old ≡ [] → G ≡ [] → log ≡ old ++ log_of X G (replayed X G lines) → H ≡ history_after X G (replayed X G lines)
+      → IsRunOver m Y names log H
   replay_over old G lines o g replies events =
-      run_over (replayed X [] lines) (replies ∙ ap₂ (λ (w : List Answered) (P : List Event). w ++ log_of X P (replayed X P lines)) o g) (events ∙ ap (λ (P : List Event). history_after X P (replayed X P lines)) g)
+      run_over (replayed X [] lines) (replies ∙ ap₂ (λ (w : List Answered) (P : List Event). w ++ log_of X P (replayed X P lines)) o g)
+      (events ∙ ap (λ (P : List Event). history_after X P (replayed X P lines)) g)
 
   pub turns_over : (scripts : List (Session × List Line)) → IsOf (Turns X (scripts_on scripts)) X log H → IsRunOver m Y names log H
   turns_over scripts of = run_over (requests_of of.entries) (of.replies ∙ follows_log X [] (seated (scripts_on scripts)) of.entries of.holds.follows) of.events

@@ -1,8 +1,6 @@
 -- How the lines of an input run over its store, and what is shown of a run.
-use Rattle.std.specs.Prelude.{◌≡◌, ℕ, ◌++◌, ◌≤◌, List, [], length, ℤ, Option, Some, IfSome}
+use Rattle.std.specs.Prelude.{◌≡◌, ℕ, ◌≤◌, List, [], length, Option, Some, IfSome}
 use Rattle.std.specs.List.{flat_map}
-use Rattle.teb_names.specs.declared.Txn.{Txn}
-use Rattle.teb_names.specs.declared.Cell.{Cell}
 use Rattle.teb_names.specs.declared.naming.NameBook.{NameBook}
 use Rattle.teb_history.specs.declared.Event.{Event}
 use Rattle.teb_rules.specs.Setup.{Store}
@@ -12,12 +10,11 @@ use Rattle.teb_rules.specs.Serializes.{Serializes}
 use Rattle.teb_rules.specs.Driver.{Turns}
 use Rattle.driver_laws.specs.Laws.{most_requests}
 use Rattle.engine_core.specs.EngineModel.{EngineModel}
-use Rattle.serial_order.specs.Commits.{txn_numbers}
-use Rattle.serial_order.specs.Tables.{IsFinalRows}
 use Rattle.script_text.specs.declared.Line.{Line}
 use Rattle.script_text.specs.declared.Answered.{Answered}
 use Rattle.script_text.specs.Scripts.{scripts_of}
-use Rattle.script_text.specs.Texts.{reply_text, report_text}
+use Rattle.script_text.specs.Texts.{reply_text}
+use Rattle.printed_run.specs.Printed.{IsReportAfter}
 use Rattle.replay_runner.specs.Logs.{Requests, log_of, replayed}
 use Rattle.fair_driver.specs.Seats.{scripts_on}
 use Rattle.fair_driver.specs.Logged.{IsOf}
@@ -61,14 +58,6 @@ pub record HasRun (R : Run) (Tells : NameBook → List Answered → Type 0) (tas
 -- what a text says of the replies and the history of a run
 abbrev pub Says : Type 1
 Says = Store → NameBook → List Event → List Answered → List ℕ → Type 0
-
--- this text, and behind it the serial order and the final rows
-pub record IsReportAfter (front : List ℕ) (X : Store) (names : NameBook) (H : List Event) (text : List ℕ) : Type 0 where
-  pub order : List Txn
-  pub rows : List (Cell × ℤ)
-  pub ordered : txn_numbers order ≡ serial_order X.setup H
-  pub final : IsFinalRows X H rows
-  pub joined : text ≡ front ++ report_text names order rows
 
 -- the replies, the serial order and the final rows
 abbrev pub IsReport : Says

@@ -1,7 +1,7 @@
 //! The commands `replay` and `turns`: an input is run by one thread, and reported.
 //!
 //! `tebaldi` calls [`run_replay`] or [`run_turns`] with an input that was read. `shop_load` runs its lines with [`in_turns`], and
-//! `phase_runner`, `hall_runner` and `crash_runner` write their reports with the functions `report_of` and `put_..`.
+//! `phase_runner` and `crash_runner` write their reports with `report_of` and `put_replies`.
 //!
 //! ```text
 //!   Input ──► Engine ──in_order: each line once, in order, then End for each session that holds a transaction──┐
@@ -30,5 +30,5 @@ mod run;
 pub use driving::in_turns;
 pub use interleaving::in_order;
 pub use output::output_of;
-pub use report::{put_ending, put_replies, report_of};
+pub use report::{put_replies, report_of};
 pub use run::{run_replay, run_turns};

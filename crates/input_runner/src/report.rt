@@ -4,16 +4,15 @@ ghost use Rattle.std.specs.Prelude.{◌≡◌, ◌++◌, All, IfOk, List, OnOk};
 ghost use Rattle.std.specs.List.{flat_map};
 ghost use Rattle.script_text.specs.declared.Answered.{Answered};
 ghost use Rattle.script_text.specs.Texts.{reply_text};
-ghost use Rattle.script_text.specs.Named.{ReplyNamed, RowsNamed};
-ghost use Rattle.serial_order.specs.Tables.{IsFinalRows};
+ghost use Rattle.script_text.specs.Named.{ReplyNamed};
 ghost use Rattle.store_setup.specs.SetupView.{SetupView};
 ghost use Rattle.answer_log.specs.Telling.{HasLines};
-ghost use Rattle.input_runner.specs.Runs.{IsReport, IsReportAfter, IsRunOver};
+ghost use Rattle.input_runner.specs.Runs.{IsReport, IsRunOver};
 
 use answer_log::ReplyText;
 use engine_core::Engine;
-use script_text::{Answered, put_reply, put_report};
-use serial_order::{order, tables};
+use printed_run::put_ending;
+use script_text::{Answered, put_reply};
 use std::alloc::{AllocError, Global};
 use teb_names::NameBook;
 use version_chain::Chains;
@@ -32,20 +31,6 @@ pub fn report_of<C: Chains>(
     let mut text = replies.into_text(&engine.setup().names)?;
     put_ending(alloc, &mut text, engine)?;
     Ok(text)
-}
-
-/// Appends the serial order and the final tables. After an error some of it is appended.
-pub fn put_ending<C: Chains>(
-    alloc: Global,
-    out: &mut Vec<u8>,
-    engine: &Engine<C>,
-) -> Result<(), AllocError>
-    requires { (rows : _) → IsFinalRows engine.now.store engine.now.events rows → RowsNamed engine.now.names rows }
-    ensures { OnOk result (IsReportAfter out.old.items engine.now.store engine.now.names engine.now.events out.new.items) }
-{
-    let order = order(alloc, engine)?;
-    let rows = tables(alloc, engine)?;
-    put_report(out, &engine.setup().names, &order, &rows)
 }
 
 /// Appends the replies. After an error some of them are appended.

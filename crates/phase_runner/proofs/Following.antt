@@ -40,7 +40,8 @@ one_more xs task (Ok later) = ap (λ (l : List Task). let r : Result (List Task)
 one_more xs task (Err e) = refl
 
 -- one pair after the others
-pub one_read : (xs : List Task) (k : ℕ) (before : Option Task) (p : Pair) (more : List Pair) (task : Task) → task_at k before p ≡ Ok task → behind xs (tasks_from k before (p ∷ more)) ≡ behind (xs ++ task ∷ []) (tasks_from (k + 1) (Some task) more)
+pub one_read : (xs : List Task) (k : ℕ) (before : Option Task) (p : Pair) (more : List Pair) (task : Task) → task_at k before p ≡ Ok task → behind xs (tasks_from k before (p ∷ more)) ≡ behind
+    (xs ++ task ∷ []) (tasks_from (k + 1) (Some task) more)
 one_read xs k before p more task e = rw e (one_more xs task (tasks_from (k + 1) (Some task) more))
 
 pub one_bad : (xs : List Task) (k : ℕ) (before : Option Task) (p : Pair) (more : List Pair) (w : PhaseError) → task_at k before p ≡ Err w → behind xs (tasks_from k before (p ∷ more)) ≡ Err w

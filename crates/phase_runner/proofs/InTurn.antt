@@ -45,7 +45,8 @@ module _ (rows : Table) (task : Task) (later : List Task) (p : Course) (old new 
   }
 
   -- these are the phases before it
-  module _ (before : List EngineModel) (past : p.past ≡ before) (all : List Task) (goes : (es : List EngineModel) (text : List ℕ) → RunFrom rows (task ∷ later) es text → RunAll all (before ++ es) (old ++ text)) where
+  module _ (before : List EngineModel) (past : p.past ≡ before) (all : List Task) (goes : (es : List EngineModel) (text : List ℕ) → RunFrom rows (task ∷ later) es text
+      → RunAll all (before ++ es) (old ++ text)) where
     behind_report : (R : Table) → Leaves p.present R → (es : List EngineModel) (back : List ℕ) → RunFrom R later es back → RunAll all (phases p ++ es) (new ++ back)
     behind_report R leaves es back run =
         let text : new ++ back ≡ old ++ (h.front ++ back) = ap (λ (w : List ℕ). w ++ back) h.joined ∙ append_assoc old h.front back in
@@ -64,7 +65,8 @@ module _ (rows : Table) (task : Task) (later : List Task) (p : Course) (old new 
     }
 
 -- the first task has run
-pub first_run : (task : Task) (later : List Task) (p : Course) (old new : List ℕ) → IsCourse p → p.past ≡ [] → old ≡ [] → AreFollowing (task ∷ later) → HasRun task.setup.rows task p.present old new → MayGoOn (task ∷ later) later p new
+pub first_run : (task : Task) (later : List Task) (p : Course) (old new : List ℕ) → IsCourse p → p.past ≡ [] → old ≡ [] → AreFollowing (task ∷ later) → HasRun task.setup.rows task p.present old new
+    → MayGoOn (task ∷ later) later p new
 first_run task later p old new course past o follow h =
     after_run task.setup.rows task later p old new h [] past (task ∷ later) (λ es text run. subst (λ (w : List ℕ). RunAll (task ∷ later) es (w ++ text)) (sym o) run) course follow
 
@@ -73,14 +75,16 @@ pub may_switch : (all : List Task) (task : Task) (later : List Task) (p : Course
 may_switch all task later p text g = record { drained = g.drained; tables = g.follow.0; rows = g.follow.1 }
 
 -- and has run
-pub next_run : (all : List Task) (task : Task) (later : List Task) (p q : Course) (text new : List ℕ) → MayGoOn all (task ∷ later) p text → IsCourse q → q.past ≡ phases p → (rows : Table) → Leaves p.present rows → HasRun rows task q.present text new → MayGoOn all later q new
+pub next_run : (all : List Task) (task : Task) (later : List Task) (p q : Course) (text new : List ℕ) → MayGoOn all (task ∷ later) p text → IsCourse q → q.past ≡ phases p → (rows : Table)
+    → Leaves p.present rows → HasRun rows task q.present text new → MayGoOn all later q new
 next_run all task later p q text new g course past rows leaves h =
     after_run rows task later q text new h (phases p) past all (λ es back run. g.goes rows leaves es back run)
     course (subst (λ (names : List (List ℕ)). AllFollow names later) (sym g.follow.0) g.follow.2)
 
 -- nobody is left
 pub all_run : (all : List Task) (p : Course) (text : List ℕ) → MayGoOn all [] p text → RunInTurn all text
-all_run all p text g = go all (subst (λ (es : List EngineModel). RunAll all es text) (append-nil (phases p)) (subst (RunAll all (phases p ++ [])) (append-nil text) (g.goes g.rows g.left [] [] (refl, refl))))
+all_run all p text g = go all
+    (subst (λ (es : List EngineModel). RunAll all es text) (append-nil (phases p)) (subst (RunAll all (phases p ++ [])) (append-nil text) (g.goes g.rows g.left [] [] (refl, refl))))
   where
     go : (tasks : List Task) → RunAll tasks (phases p) text → RunInTurn tasks text
     go [] run = run

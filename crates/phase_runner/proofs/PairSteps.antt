@@ -78,7 +78,8 @@ back_is [] (Some b) s l = absurd (let z : true ≡ false = grind (arith, nat_tes
 back_is (x ∷ xs) (Some b) s l = ap (λ (t : Task). let o : Option Task = Some t in o) l ∙ sym (slice_get-get_or (x ∷ xs) (length (x ∷ xs) - 1) b.now (omega arith))
 
 -- the parts of pair i
-pub pairs_at : (parts : List (Bor (List ℕ))) (i : ℕ) (d e : Bor (List ℕ)) → 2 * i + 1 < length parts → pairs_of (texts (drop (2 * i) parts)) ≡ ((get_or parts (2 * i) d).now, (get_or parts (2 * i + 1) e).now) ∷ pairs_of (texts (drop (2 * (i + 1)) parts))
+pub pairs_at : (parts : List (Bor (List ℕ))) (i : ℕ) (d e : Bor (List ℕ)) → 2 * i + 1 < length parts
+    → pairs_of (texts (drop (2 * i) parts)) ≡ ((get_or parts (2 * i) d).now, (get_or parts (2 * i + 1) e).now) ∷ pairs_of (texts (drop (2 * (i + 1)) parts))
 pairs_at parts i d e h =
     let next : 2 * i + 1 + 1 ≡ 2 * (i + 1) = omega arith in
     let first : drop (2 * i) parts ≡ get_or parts (2 * i) d ∷ drop (2 * i + 1) parts = drop_more parts (2 * i) d (omega (arith, h)) in
@@ -105,26 +106,30 @@ module _ (parts : List (Bor (List ℕ))) (i : ℕ) (xs : List Task) where
       let none : pairs_of (texts (drop (2 * i) parts)) ≡ [] = no_pair (drop (2 * i) parts) (omega (arith, h, length-drop (2 * i) parts)) in
       ap (λ (ps : List Pair). behind xs (tasks_from (i + 1) (last_of xs) ps)) none ∙ ap (λ (w : List Task). let r : Result (List Task) PhaseError = Ok w in r) (append-nil xs)
 
-  module _ (d e : Bor (List ℕ)) (more : 2 * i + 1 < length parts) (r : Option (Bor Task)) (some : is_some r ≡ nat_lt 0 (length xs)) (last : IfSome r (λ x. x.now ≡ get_or xs (length xs - 1) x.now)) where
-    here : from_pair parts i xs ≡ behind xs (tasks_from (i + 1) (option_copied r) (((get_or parts (2 * i) d).now, (get_or parts (2 * i + 1) e).now) ∷ pairs_of (texts (drop (2 * (i + 1)) parts))))
-    here = ap (λ (ps : List Pair). behind xs (tasks_from (i + 1) (last_of xs) ps)) (pairs_at parts i d e more)
-        ∙ ap (λ (o : Option Task). behind xs (tasks_from (i + 1) o (((get_or parts (2 * i) d).now, (get_or parts (2 * i + 1) e).now) ∷ pairs_of (texts (drop (2 * (i + 1)) parts))))) (sym (back_is xs r some last))
+  module _ (d e : Bor (List ℕ)) (more : 2 * i + 1 < length parts) (r : Option (Bor Task)) (some : is_some r ≡ nat_lt 0 (length xs)) (last : IfSome r (λ x. x.now ≡ get_or xs (length xs - 1) x.now))
+    where
+      here : from_pair parts i xs ≡ behind xs (tasks_from (i + 1) (option_copied r) (((get_or parts (2 * i) d).now, (get_or parts (2 * i + 1) e).now) ∷ pairs_of (texts (drop (2 * (i + 1)) parts))))
+      here = ap (λ (ps : List Pair). behind xs (tasks_from (i + 1) (last_of xs) ps)) (pairs_at parts i d e more)
+          ∙ ap (λ (o : Option Task). behind xs (tasks_from (i + 1) o (((get_or parts (2 * i) d).now, (get_or parts (2 * i + 1) e).now) ∷ pairs_of (texts (drop (2 * (i + 1)) parts)))))
+          (sym (back_is xs r some last))
 
-    pub pair_read : (task : Task) (now : List Task) → task_at (i + 1) (option_copied r) ((get_or parts (2 * i) d).now, (get_or parts (2 * i + 1) e).now) ≡ Ok task → now ≡ xs ++ task ∷ [] → from_pair parts (i + 1) now ≡ from_pair parts i xs
-    pair_read task now t n =
-        ap (λ (w : List Task). from_pair parts (i + 1) w) n
-        ∙ ap (λ (o : Option Task). behind (xs ++ task ∷ []) (tasks_from (i + 1 + 1) o (pairs_of (texts (drop (2 * (i + 1)) parts))))) (last_is xs task)
-        ∙ sym (one_read xs (i + 1) (option_copied r) ((get_or parts (2 * i) d).now, (get_or parts (2 * i + 1) e).now) (pairs_of (texts (drop (2 * (i + 1)) parts))) task t)
-        ∙ sym here
+      pub pair_read : (task : Task) (now : List Task) → task_at (i + 1) (option_copied r) ((get_or parts (2 * i) d).now, (get_or parts (2 * i + 1) e).now) ≡ Ok task → now ≡ xs ++ task ∷ []
+          → from_pair parts (i + 1) now ≡ from_pair parts i xs
+      pair_read task now t n =
+          ap (λ (w : List Task). from_pair parts (i + 1) w) n
+          ∙ ap (λ (o : Option Task). behind (xs ++ task ∷ []) (tasks_from (i + 1 + 1) o (pairs_of (texts (drop (2 * (i + 1)) parts))))) (last_is xs task)
+          ∙ sym (one_read xs (i + 1) (option_copied r) ((get_or parts (2 * i) d).now, (get_or parts (2 * i + 1) e).now) (pairs_of (texts (drop (2 * (i + 1)) parts))) task t)
+          ∙ sym here
 
-    bad : (w : PhaseError) → task_at (i + 1) (option_copied r) ((get_or parts (2 * i) d).now, (get_or parts (2 * i + 1) e).now) ≡ Err w → from_pair parts i xs ≡ Err w
-    bad w t = here ∙ one_bad xs (i + 1) (option_copied r) ((get_or parts (2 * i) d).now, (get_or parts (2 * i + 1) e).now) (pairs_of (texts (drop (2 * (i + 1)) parts))) w t
+      bad : (w : PhaseError) → task_at (i + 1) (option_copied r) ((get_or parts (2 * i) d).now, (get_or parts (2 * i + 1) e).now) ≡ Err w → from_pair parts i xs ≡ Err w
+      bad w t = here ∙ one_bad xs (i + 1) (option_copied r) ((get_or parts (2 * i) d).now, (get_or parts (2 * i + 1) e).now) (pairs_of (texts (drop (2 * (i + 1)) parts))) w t
 
-    pub pair_bad : {A : Type 0} (view : A → List Task) (w : PhaseError) → IsTask (Err w) (task_at (i + 1) (option_copied r) ((get_or parts (2 * i) d).now, (get_or parts (2 * i + 1) e).now)) → IsRead view (Err w) (from_pair parts i xs)
-    pair_bad view (BadPhase n why) t = bad (BadPhase n why) t
-    pair_bad view (BadInput input.ReadFault) t = t
-    pair_bad view (BadInput input.TooLong) t = bad (BadInput input.TooLong) t
-    pair_bad view (BadInput input.NoSeparator) t = bad (BadInput input.NoSeparator) t
-    pair_bad view (BadInput (input.BadTree why)) t = bad (BadInput (input.BadTree why)) t
-    pair_bad view (BadInput (input.BadLine n why)) t = bad (BadInput (input.BadLine n why)) t
-    pair_bad view (BadInput input.OutOfMemory) t = tt
+      pub pair_bad : {A : Type 0} (view : A → List Task) (w : PhaseError) → IsTask (Err w) (task_at (i + 1) (option_copied r) ((get_or parts (2 * i) d).now, (get_or parts (2 * i + 1) e).now))
+          → IsRead view (Err w) (from_pair parts i xs)
+      pair_bad view (BadPhase n why) t = bad (BadPhase n why) t
+      pair_bad view (BadInput input.ReadFault) t = t
+      pair_bad view (BadInput input.TooLong) t = bad (BadInput input.TooLong) t
+      pair_bad view (BadInput input.NoSeparator) t = bad (BadInput input.NoSeparator) t
+      pair_bad view (BadInput (input.BadTree why)) t = bad (BadInput (input.BadTree why)) t
+      pair_bad view (BadInput (input.BadLine n why)) t = bad (BadInput (input.BadLine n why)) t
+      pair_bad view (BadInput input.OutOfMemory) t = tt

@@ -40,7 +40,8 @@ shorter_lines (x ∷ xs) p e = first (is_separator x) refl (λ q f. shorter_line
         subst (λ (r : Split). length r.0 + length r.1 < length (x ++ 10 ∷ join_with_byte 10 (y ∷ ys))) g
         (omega (arith, h, length-append x (10 ∷ q.0), length-append x (10 ∷ join_with_byte 10 (y ∷ ys))))
 
-    first : (b : Bool) → is_separator x ≡ b → ((q : Split) → parts_from xs ≡ Some q → length q.0 + length q.1 < length (join_with_byte 10 xs)) → cond b (Some ([], join_with_byte 10 xs)) (option_map (λ (q : Split). (x ++ 10 ∷ q.0, q.1)) (parts_from xs)) ≡ Some p
+    first : (b : Bool) → is_separator x ≡ b → ((q : Split) → parts_from xs ≡ Some q → length q.0 + length q.1 < length (join_with_byte 10 xs))
+        → cond b (Some ([], join_with_byte 10 xs)) (option_map (λ (q : Split). (x ++ 10 ∷ q.0, q.1)) (parts_from xs)) ≡ Some p
         → length p.0 + length p.1 < length (join_with_byte 10 (x ∷ xs))
     first true s ih k =
         let g : ([], join_with_byte 10 xs) ≡ p = cc in
@@ -66,12 +67,14 @@ texts_more : (so_far now : List (Bor (List ℕ))) (p : Bor (List ℕ)) → now �
 texts_more so_far now p e = ap texts e ∙ map-append (λ (p : Bor (List ℕ)). p.now) so_far (p ∷ [])
 
 -- one part more
-pub one_cut : (bytes rest behind : List ℕ) (so_far now : List (Bor (List ℕ))) (p : Bor (List ℕ)) → parts_of rest ≡ Some (p.now, behind) → now ≡ so_far ++ p ∷ [] → IsCut bytes rest so_far → IsCut bytes behind now
+pub one_cut : (bytes rest behind : List ℕ) (so_far now : List (Bor (List ℕ))) (p : Bor (List ℕ)) → parts_of rest ≡ Some (p.now, behind) → now ≡ so_far ++ p ∷ [] → IsCut bytes rest so_far
+    → IsCut bytes behind now
 one_cut bytes rest behind so_far now p e n c =
     let t = texts_more so_far now p n in
     let s = shorter rest p.now behind e in
     record {
-      parts = λ more a. subst (AreParts bytes) (sym (ap (λ (w : List (List ℕ)). w ++ more) t ∙ append_assoc (texts so_far) (p.now ∷ []) more)) (c.parts (p.now ∷ more) (before_more rest p.now behind e more a));
+      parts = λ more a. subst (AreParts bytes) (sym (ap (λ (w : List (List ℕ)). w ++ more) t ∙ append_assoc (texts so_far) (p.now ∷ []) more))
+          (c.parts (p.now ∷ more) (before_more rest p.now behind e more a));
       small = subst (All (λ (p : List ℕ). length p ≤ MOST_BYTES)) (sym t) (All-push (λ (p : List ℕ). length p ≤ MOST_BYTES) (texts so_far) p.now c.small (omega (arith, c.within, s)));
       within = omega (arith, c.within, s);
     }

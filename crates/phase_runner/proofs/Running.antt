@@ -31,14 +31,16 @@ use Rattle.phase_runner.proofs.Drained.{replay_drained}
 
 -- the engine e, in which nothing had happened, has come to f by a replay
 module _ (e f : EngineModel) (lines : List Line) (log : List Answered) (store : f.store ≡ e.store) (names : f.names ≡ e.names) where
-  pub is_replay : (old : List Answered) → old ≡ [] → e.events ≡ [] → log ≡ old ++ log_of e.store e.events (replayed e.store e.events lines) → f.events ≡ history_after e.store e.events (replayed e.store e.events lines) → IsReplay e.store lines log f.events
+  pub is_replay : (old : List Answered) → old ≡ [] → e.events ≡ [] → log ≡ old ++ log_of e.store e.events (replayed e.store e.events lines)
+      → f.events ≡ history_after e.store e.events (replayed e.store e.events lines) → IsReplay e.store lines log f.events
   is_replay old o n replies events = record {
     replies = replies ∙ ap₂ (λ (w : List Answered) (G : List Event). w ++ log_of e.store G (replayed e.store G lines)) o n;
     events = events ∙ ap (λ (G : List Event). history_after e.store G (replayed e.store G lines)) n;
   }
 
   module _ (run : IsReplay e.store lines log f.events) where
-    pub run_over : (s : Setup) → IsWhole (setup_view s) → length s.tree.rows ≡ length s.names.nodes → engine.store_of s ≡ e.store → s.names ≡ e.names → IsRunOver (setup_view s) f.store f.names log f.events
+    pub run_over : (s : Setup) → IsWhole (setup_view s) → length s.tree.rows ≡ length s.names.nodes → engine.store_of s ≡ e.store → s.names ≡ e.names
+        → IsRunOver (setup_view s) f.store f.names log f.events
     run_over s whole nodes q n = record {
       whole = whole;
       nodes = nodes;
@@ -66,7 +68,8 @@ module _ (e f : EngineModel) (lines : List Line) (log : List Answered) (store : 
     }
 
 -- the present engine e of a course, in which nothing had happened, has come to f by a replay
-module _ (p : Course) (past : List EngineModel) (e f : EngineModel) (lines : List Line) (old log : List Answered) (course : IsCourse p) (past_is : past ≡ p.past) (present_is : e ≡ p.present) (new : p.present.events ≡ [])
+module _ (p : Course) (past : List EngineModel) (e f : EngineModel) (lines : List Line) (old log : List Answered) (course : IsCourse p) (past_is : past ≡ p.past) (present_is : e ≡ p.present)
+    (new : p.present.events ≡ [])
     (store : f.store ≡ e.store) (names : f.names ≡ e.names) (empty : old ≡ []) (replies : log ≡ old ++ log_of e.store e.events (replayed e.store e.events lines))
     (events : f.events ≡ history_after e.store e.events (replayed e.store e.events lines)) where
   parts : IsCourse (record { past = past; present = e })
@@ -82,17 +85,21 @@ module _ (p : Course) (past : List EngineModel) (e f : EngineModel) (lines : Lis
   drained_after = drained e f lines log store names run past parts
 
   -- a report of it that was put behind a text
-  pub reported_after : (d : EngineModel) (text before behind : List ℕ) → d ≡ f → IsReport f.store f.names f.events log text → behind ≡ before ++ text → (front : List ℕ) × IsPhase p.present.store p.present.names lines d.events front × (behind ≡ before ++ front)
+  pub reported_after : (d : EngineModel) (text before behind : List ℕ) → d ≡ f → IsReport f.store f.names f.events log text → behind ≡ before ++ text → (front : List ℕ)
+      × IsPhase p.present.store p.present.names lines d.events front × (behind ≡ before ++ front)
   reported_after d text before behind same told joined = (
     text,
-    subst (λ (k : EngineModel). IsPhase p.present.store p.present.names lines k.events text) (sym same) (subst (λ (k : EngineModel). IsPhase k.store k.names lines f.events text) present_is (is_phase e f lines log store names run text told)),
+    subst (λ (k : EngineModel). IsPhase p.present.store p.present.names lines k.events text) (sym same)
+        (subst (λ (k : EngineModel). IsPhase k.store k.names lines f.events text) present_is (is_phase e f lines log store names run text told)),
     joined,
   )
 
   -- it is a run over the setup of the present engine
-  pub over_after : (s : Setup) → IsWhole (setup_view s) → engine.store_of s ≡ e.store → s.names ≡ e.names → length p.present.store.setup.tree ≡ length p.present.names.nodes → IsRunOver (setup_view s) f.store f.names log f.events
+  pub over_after : (s : Setup) → IsWhole (setup_view s) → engine.store_of s ≡ e.store → s.names ≡ e.names → length p.present.store.setup.tree ≡ length p.present.names.nodes
+      → IsRunOver (setup_view s) f.store f.names log f.events
   over_after s whole q n named =
-      let nodes : length e.store.setup.tree ≡ length e.names.nodes = ap (λ (d : EngineModel). length d.store.setup.tree) present_is ∙ named ∙ sym (ap (λ (d : EngineModel). length d.names.nodes) present_is) in
+      let nodes : length e.store.setup.tree ≡ length e.names.nodes = ap (λ (d : EngineModel). length d.store.setup.tree) present_is ∙ named
+      ∙ sym (ap (λ (d : EngineModel). length d.names.nodes) present_is) in
       run_over e f lines log store names run s whole (ap (λ (X : Store). length X.setup.tree) q ∙ nodes ∙ sym (ap (λ (b : NameBook). length b.nodes) n)) q n
 
 -- what was put behind a text is a phase's report
@@ -100,7 +107,8 @@ abbrev pub Reported : EngineModel → List Line → EngineModel → List ℕ →
 Reported e lines f old new = (front : List ℕ) × IsPhase e.store e.names lines f.events front × (new ≡ old ++ front)
 
 -- a task has run from these rows, where the engine that it ran in started with them
-pub has_run : (rows : Table) (task : Task) (e f : EngineModel) (lines : List Line) (old new : List ℕ) → e.store ≡ store_of_view (starting_with rows task.setup) → e.names ≡ names_of task.setup → lines ≡ task.lines → f.store ≡ e.store → f.names ≡ e.names → IsDrained f.events → Reported e lines f old new
+pub has_run : (rows : Table) (task : Task) (e f : EngineModel) (lines : List Line) (old new : List ℕ) → e.store ≡ store_of_view (starting_with rows task.setup) → e.names ≡ names_of task.setup
+    → lines ≡ task.lines → f.store ≡ e.store → f.names ≡ e.names → IsDrained f.events → Reported e lines f old new
     → HasRun rows task f old new
 has_run rows task e f lines old new q n l store names drained r = record {
   store = store ∙ q;
@@ -121,12 +129,15 @@ module _ (s : Setup) (m : SetupView) (is : setup_view s ≡ m) (before e : Engin
   started_names = i.names ∙ ap names_of is
 
 -- the same of what was handed back
-pub phase_run : (rows : Table) (task : Task) (e : EngineModel) (lines : List Line) (old new : List ℕ) (r : Result Course AllocError) → e.store ≡ store_of_view (starting_with rows task.setup) → e.names ≡ names_of task.setup → lines ≡ task.lines
-    → IfOk r (λ p. p.present.store ≡ e.store) → IfOk r (λ p. p.present.names ≡ e.names) → IfOk r (λ p. IsDrained p.present.events) → IfOk r (λ p. Reported e lines p.present old new) → IfOk r (λ p. HasRun rows task p.present old new)
+pub phase_run : (rows : Table) (task : Task) (e : EngineModel) (lines : List Line) (old new : List ℕ) (r : Result Course AllocError) → e.store ≡ store_of_view (starting_with rows task.setup)
+    → e.names ≡ names_of task.setup → lines ≡ task.lines
+    → IfOk r (λ p. p.present.store ≡ e.store) → IfOk r (λ p. p.present.names ≡ e.names) → IfOk r (λ p. IsDrained p.present.events) → IfOk r (λ p. Reported e lines p.present old new)
+    → IfOk r (λ p. HasRun rows task p.present old new)
 phase_run rows task e lines old new (Ok p) q n l store names drained report = has_run rows task e p.present lines old new q n l store names drained report
 phase_run rows task e lines old new (Err w) q n l store names drained report = tt
 
-pub from_rows : (task : Task) (before : EngineModel) (rows : Table) (old new : List ℕ) (r : Result Course AllocError) → IsFinalRows before.store before.events rows → IfOk r (λ p. HasRun rows task p.present old new)
+pub from_rows : (task : Task) (before : EngineModel) (rows : Table) (old new : List ℕ) (r : Result Course AllocError) → IsFinalRows before.store before.events rows
+    → IfOk r (λ p. HasRun rows task p.present old new)
     → IfOk r (λ p. (x : Table) × IsFinalRows before.store before.events x × HasRun x task p.present old new)
 from_rows task before rows old new (Ok p) final h = (rows, final, h)
 from_rows task before rows old new (Err w) final h = tt

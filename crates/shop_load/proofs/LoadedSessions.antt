@@ -7,13 +7,15 @@ use Rattle.teb_names.specs.declared.Request.{Request}
 use Rattle.script_text.specs.Sessions.{AreOfSessions}
 use Rattle.shop_load.specs.Loads.{Asking, askings_at, asked_by, numbered, loaded_lines, requests_from, state}
 
-asked_sessions : (n : ℕ) (s : Session) (rs : List Request) (more : List Asking) → 0 < s.0 → s.0 ≤ SESSIONS → ((m : ℕ) → AreOfSessions (numbered m more)) → AreOfSessions (numbered n (asked_by s rs ++ more))
+asked_sessions : (n : ℕ) (s : Session) (rs : List Request) (more : List Asking) → 0 < s.0 → s.0 ≤ SESSIONS → ((m : ℕ) → AreOfSessions (numbered m more))
+    → AreOfSessions (numbered n (asked_by s rs ++ more))
 asked_sessions n s [] more a b h = h n
 asked_sessions n s (r ∷ rs) more a b h = (a, b, asked_sessions (n + 1) s rs more a b h)
 
 loaded_from : (number a n m : ℕ) → AreOfSessions (numbered m (flat_map (askings_at number) (range_with_len a n)))
 loaded_from number a zero m = tt
-loaded_from number a (suc n) m = asked_sessions m (record { 0 = 1 + a % 8 }) (requests_from (state number (3 * a)) a) (flat_map (askings_at number) (range_with_len (a + 1) n)) (omega arith) (omega arith) (λ k. loaded_from number (a + 1) n k)
+loaded_from number a (suc n) m = asked_sessions m (record { 0 = 1 + a % 8 }) (requests_from (state number (3 * a)) a) (flat_map (askings_at number) (range_with_len (a + 1) n)) (omega arith)
+    (omega arith) (λ k. loaded_from number (a + 1) n k)
 
 pub loaded_sessions : (number size : ℕ) → AreOfSessions (loaded_lines number size)
 unfolding loaded_lines

@@ -17,7 +17,8 @@ numbered_length n [] = refl
 numbered_length n (x ∷ xs) = ap suc (numbered_length (n + 1) xs)
 
 -- one request more of a session
-pub asked_more : (n : ℕ) (s : Session) (rs : List Request) (i : ℕ) (d : Request) → i < length rs → numbered n (asked_by s (take (i + 1) rs)) ≡ numbered n (asked_by s (take i rs)) ++ record { number = n + i; session = s; request = get_or rs i d } ∷ []
+pub asked_more : (n : ℕ) (s : Session) (rs : List Request) (i : ℕ) (d : Request) → i < length rs → numbered n (asked_by s (take (i + 1) rs)) ≡ numbered n (asked_by s (take i rs))
+    ++ record { number = n + i; session = s; request = get_or rs i d } ∷ []
 asked_more n s rs i d h =
     ap (numbered n) (map_more (λ (r : Request). (s, r)) rs i d h) ∙ numbered_append n (asked_by s (take i rs)) ((s, get_or rs i d) ∷ [])
     ∙ ap (λ (k : ℕ). numbered n (asked_by s (take i rs)) ++ record { number = n + k; session = s; request = get_or rs i d } ∷ [])

@@ -139,7 +139,8 @@ no_error rows (Misplaced n w) are a = absurd (let z : tree_fault (rows_of rows) 
 no_error rows OutOfMemory are a = refl
 
 -- the parts make the shop
-pub whole_of : (tables types nodes : List (List ℕ)) (profiles : List (List (List ℕ))) (tree : Grown) (rows : List (Cell × ℤ)) → tables ≡ shop.tables → types ≡ shop.types → nodes ≡ shop.nodes → profiles ≡ shop.profiles → tree ≡ shop.tree → rows ≡ shop.rows
+pub whole_of : (tables types nodes : List (List ℕ)) (profiles : List (List (List ℕ))) (tree : Grown) (rows : List (Cell × ℤ)) → tables ≡ shop.tables → types ≡ shop.types → nodes ≡ shop.nodes
+    → profiles ≡ shop.profiles → tree ≡ shop.tree → rows ≡ shop.rows
     → IsWhole (record { tables = tables; types = types; nodes = nodes; profiles = profiles; tree = tree; rows = rows; format = 1 })
 whole_of tables types nodes profiles tree rows a b c d e f = rw (a, b, c, d, e, f) shop_whole
 

@@ -23,7 +23,8 @@ pub counted_more : (p : ℕ → Bool) (n : ℕ) → length (filter p (numbers (n
 unfolding numbers
 counted_more p n =
     let e : n + 1 ≡ suc n = omega arith in
-    rw e (ap length (filter-append p (numbers n) (suc n ∷ [])) ∙ length-append (filter p (numbers n)) (filter p (suc n ∷ [])) ∙ ap (λ (k : ℕ). length (filter p (numbers n)) + k) (one_counted p (suc n)))
+    rw e (ap length (filter-append p (numbers n) (suc n ∷ [])) ∙ length-append (filter p (numbers n)) (filter p (suc n ∷ [])) ∙ ap (λ (k : ℕ). length (filter p (numbers n)) + k)
+    (one_counted p (suc n)))
 
 -- a test as a number
 pub bit_is : (b : Bool) → from_bool b ≡ cond b 1 0
@@ -40,7 +41,8 @@ counted_few p zero = let z = none_counted p in omega arith
 counted_few p (suc n) =
     let e : n + 1 ≡ suc n = omega arith in
     let z = counted_few p n in
-    let y : length (filter p (numbers (suc n))) ≡ length (filter p (numbers n)) + cond (p (suc n)) 1 0 = subst (λ (k : ℕ). length (filter p (numbers k)) ≡ length (filter p (numbers n)) + cond (p k) 1 0) e (counted_more p n) in
+    let y : length (filter p (numbers (suc n))) ≡ length (filter p (numbers n)) + cond (p (suc n)) 1 0 = subst
+    (λ (k : ℕ). length (filter p (numbers k)) ≡ length (filter p (numbers n)) + cond (p k) 1 0) e (counted_more p n) in
     let w = at_most_one (p (suc n)) in omega arith
 
 -- what the rows from one on add

@@ -38,7 +38,8 @@ serialized_over P Q f None s = tt
 serialized_over P Q f (Some h) s = (s.0, f s.0 s.1, s.2)
 
 -- over the setup of a task that some bytes are
-serialized_by : (bytes : List ℕ) (task : Task) (Q : SetupView → Type 0) → ((m : SetupView) → IsSetUp bytes m → Q m) → input_of bytes ≡ Ok task → (kept h : Option (List Event)) → kept ≡ h → IsSerialized (λ (m : SetupView). task.setup ≡ m) h → IsSerialized Q kept
+serialized_by : (bytes : List ℕ) (task : Task) (Q : SetupView → Type 0) → ((m : SetupView) → IsSetUp bytes m → Q m) → input_of bytes ≡ Ok task → (kept h : Option (List Event)) → kept ≡ h
+    → IsSerialized (λ (m : SetupView). task.setup ≡ m) h → IsSerialized Q kept
 serialized_by bytes task Q f read kept h same s =
     let setup : (m : SetupView) → task.setup ≡ m → Q m = λ m e. f m (rw read e) in
     subst (IsSerialized Q) (sym same) (serialized_over (λ (m : SetupView). task.setup ≡ m) Q setup h s)
@@ -49,7 +50,8 @@ nothing_added (Some xs) None k = k
 nothing_added (Some xs) (Some ys) k = k ∙ sym (append-nil xs)
 
 -- a refusal is what the words come to, where the input is refused
-pub refusal_ends : (e : Ended) (command : Option Command) (R : Task → Shown → Type 0) → ((bytes : List ℕ) (d : Shown) → ShowsInput R bytes d → Ends command bytes e d) → (bytes : List ℕ) (why : InputError) → input_of bytes ≡ Err why → Ends command bytes e (refusal why)
+pub refusal_ends : (e : Ended) (command : Option Command) (R : Task → Shown → Type 0) → ((bytes : List ℕ) (d : Shown) → ShowsInput R bytes d → Ends command bytes e d)
+    → (bytes : List ℕ) (why : InputError) → input_of bytes ≡ Err why → Ends command bytes e (refusal why)
 refusal_ends e command R ends bytes why is = ends bytes (refusal why) (rw is refl)
 
 pub threads_refused : (workers : ℕ) (e : Ended) → IsAlone e → (bytes : List ℕ) (why : InputError) → input_of bytes ≡ Err why → Ends (Some (Threads workers)) bytes e (refusal why)
@@ -65,7 +67,8 @@ audited_yes text is few = rw (le-ltb MOST_BYTES (length text) few) (sym (ap verd
 module _ (left rest : Option (List ℕ)) (e : Ended) (before now : Option (List ℕ)) where
   -- a command whose input is refused
   module _ (command : Option Command) (ends : (bytes : List ℕ) (why : InputError) → input_of bytes ≡ Err why → Ends command bytes e (refusal why)) where
-    refused : (why : InputError) (bytes : List ℕ) → AreOf left rest bytes → input_of bytes ≡ Err why → IsWritten (refusal why) e.status e.history before now → e.history ≡ None → IsRight command left rest e before now
+    refused : (why : InputError) (bytes : List ℕ) → AreOf left rest bytes → input_of bytes ≡ Err why → IsWritten (refusal why) e.status e.history before now → e.history ≡ None
+        → IsRight command left rest e before now
     refused why bytes of is written none = record {
       bytes = bytes;
       read = λ _. of;
@@ -75,7 +78,8 @@ module _ (left rest : Option (List ℕ)) (e : Ended) (before now : Option (List 
       serialized = rw none tt;
     }
 
-    pub refused_of : (why : InputError) → IsReadFrom left rest (Err why) → IsWritten (refusal why) e.status e.history before now → e.history ≡ None → (why ≡ ReadFault → e.status ≡ 3) → (why ≡ OutOfMemory → e.status ≡ 8) → e.status ≢ 3 → e.status ≢ 8 → IsRight command left rest e before now
+    pub refused_of : (why : InputError) → IsReadFrom left rest (Err why) → IsWritten (refusal why) e.status e.history before now → e.history ≡ None → (why ≡ ReadFault → e.status ≡ 3)
+        → (why ≡ OutOfMemory → e.status ≡ 8) → e.status ≢ 3 → e.status ≢ 8 → IsRight command left rest e before now
     refused_of ReadFault read written none fault memory nf nm = absurd (nf (fault refl))
     refused_of OutOfMemory read written none fault memory nf nm = absurd (nm (memory refl))
     refused_of TooLong read written none fault memory nf nm = refused TooLong read.0 read.1 read.2 written none
@@ -84,7 +88,8 @@ module _ (left rest : Option (List ℕ)) (e : Ended) (before now : Option (List 
     refused_of (BadLine n why) read written none fault memory nf nm = refused (BadLine n why) read.0 read.1 read.2 written none
 
   -- a command that shows what R says of an input
-  module _ (command : Option Command) (R : Task → Shown → Type 0) (ends : (bytes : List ℕ) (d : Shown) → ShowsInput R bytes d → Ends command bytes e d) (sets_up : (bytes : List ℕ) (m : SetupView) → IsSetUp bytes m → SetsUp command bytes m) where
+  module _ (command : Option Command) (R : Task → Shown → Type 0) (ends : (bytes : List ℕ) (d : Shown) → ShowsInput R bytes d → Ends command bytes e d)
+      (sets_up : (bytes : List ℕ) (m : SetupView) → IsSetUp bytes m → SetsUp command bytes m) where
     pub right_of : (task : Task) → IsReadFrom left rest (Ok task) → (r : Result Shown AllocError) → IfOk r (R task) → IfOk r (λ o. IsSerialized (λ m. task.setup ≡ m) o.history)
         → MatchResult r (λ o. IsWritten o e.status e.history before now) (λ _. e.status ≡ 8) → e.status ≢ 8 → IsRight command left rest e before now
     right_of task read (Ok o) ran serialized written ne = record {
@@ -99,7 +104,8 @@ module _ (left rest : Option (List ℕ)) (e : Ended) (before now : Option (List 
 
   -- a command whose bytes are no input, and that keeps no history
   module _ (command : Option Command) (R : List ℕ → Shown → Type 0) (ends : (bytes : List ℕ) (d : Shown) → ShowsBytes (λ text. R text d) bytes d → Ends command bytes e d) where
-    shown_bytes : (d : Shown) (bytes : List ℕ) → AreOf left rest bytes → ShowsBytes (λ text. R text d) bytes d → d.history ≡ None → IsWritten d e.status e.history before now → IsRight command left rest e before now
+    shown_bytes : (d : Shown) (bytes : List ℕ) → AreOf left rest bytes → ShowsBytes (λ text. R text d) bytes d → d.history ≡ None → IsWritten d e.status e.history before now
+        → IsRight command left rest e before now
     shown_bytes d bytes of shows none written = record {
       bytes = bytes;
       read = λ _. of;
@@ -114,13 +120,16 @@ module _ (left rest : Option (List ℕ)) (e : Ended) (before now : Option (List 
     bytes_of text read (Ok o) is none written ne = shown_bytes o text.items read.0 (rw (le-ltb MOST_BYTES (length text.items) read.1) is) none written
     bytes_of text read (Err w) is none written ne = absurd (ne written)
 
-    pub bytes_refused : (why : ReadError) → AreReadFrom left rest (Err why) → (x : InputError) → x ≡ read_error why → IsWritten (refusal x) e.status e.history before now → (x ≡ ReadFault → e.status ≡ 3) → (x ≡ OutOfMemory → e.status ≡ 8) → e.status ≢ 3 → e.status ≢ 8 → IsRight command left rest e before now
+    pub bytes_refused : (why : ReadError) → AreReadFrom left rest (Err why) → (x : InputError) → x ≡ read_error why → IsWritten (refusal x) e.status e.history before now
+        → (x ≡ ReadFault → e.status ≡ 3) → (x ≡ OutOfMemory → e.status ≡ 8) → e.status ≢ 3 → e.status ≢ 8 → IsRight command left rest e before now
     bytes_refused read.ReadFault are x is written fault memory nf nm = absurd (nf (fault is))
     bytes_refused read.OutOfMemory are x is written fault memory nf nm = absurd (nm (memory is))
-    bytes_refused read.TooLong are x is written fault memory nf nm = shown_bytes (refusal TooLong) are.0 are.1 (rw (lt-ltb MOST_BYTES (length are.0) are.2) refl) refl (subst (λ (y : InputError). IsWritten (refusal y) e.status e.history before now) is written)
+    bytes_refused read.TooLong are x is written fault memory nf nm = shown_bytes (refusal TooLong) are.0 are.1 (rw (lt-ltb MOST_BYTES (length are.0) are.2) refl) refl
+        (subst (λ (y : InputError). IsWritten (refusal y) e.status e.history before now) is written)
 
   -- several threads
-  module _ (command : Option Command) (ends : (bytes : List ℕ) (d : Shown) → ServesInput bytes e d → Ends command bytes e d) (sets_up : (bytes : List ℕ) (m : SetupView) → IsSetUp bytes m → SetsUp command bytes m) where
+  module _ (command : Option Command) (ends : (bytes : List ℕ) (d : Shown) → ServesInput bytes e d → Ends command bytes e d)
+      (sets_up : (bytes : List ℕ) (m : SetupView) → IsSetUp bytes m → SetsUp command bytes m) where
     served_by : (task : Task) → IsReadFrom left rest (Ok task) → (r : Result Served AllocError) → IfOk r (IsServedBy task) → IfOk r (λ s. IsSerialized (λ m. task.setup ≡ m) (history_in s))
         → MatchResult r (λ s. IsServedAndWritten s e before now) (λ _. e.status ≡ 8) → e.status ≢ 8 → IsRight command left rest e before now
     served_by task read (Ok (Through o entries)) served serialized written ne = record {

@@ -49,7 +49,7 @@ pub fn turn_source<S: Source, K: Sink>(alloc: Global, input: &mut S, out: &mut K
     }
 }
 
-/// Reads an input, and serves the script of each session by so many workers.
+/// Reads an input, and serves the script of each session by `workers` workers.
 pub fn threads_source<R: Threads + Wait + Sync, S: Source, K: Sink, G: Gate + Sync>(
     rt: &R,
     alloc: Global,
@@ -70,7 +70,7 @@ pub fn threads_source<R: Threads + Wait + Sync, S: Source, K: Sink, G: Gate + Sy
     }
 }
 
-/// Reads an input, and serves the script of each session by so many workers, who take the sessions from a queue.
+/// Reads an input, and serves the script of each session by `workers` workers, which take the sessions from a queue.
 pub fn pool_source<R: Threads + Wait + Sync, S: Source, K: Sink, G: Gate + Sync>(
     rt: &R,
     alloc: Global,

@@ -16,7 +16,7 @@ use std::alloc::AllocError;
 use teb_history::History;
 use teb_io::Sink;
 
-/// The end of a command that one thread ran.
+/// Returns the end of a command that one thread ran.
 fn alone(output: WrittenOutput) -> Ended
     ensures { result ≡ record { status = output.status; history = output.history; entries = None; spent = None } }
 {

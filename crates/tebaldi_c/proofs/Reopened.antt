@@ -30,10 +30,12 @@ pub refused : (s : Setup) (bytes seen : List ℕ) (capacity : ℕ) (why : OpenEr
     → (why ≡ errors.OtherCapacity → HasOtherCapacity (layout_of capacity s) seen) → (why ≡ errors.OtherTables → HasOtherLabel (layout_of capacity s) seen)
     → (why ≡ errors.Full → (half_size capacity < 10 + length (layout_of capacity s).label) ⊎ HasTooMany (layout_of capacity s) (row_of s.rows) seen)
     → IsFault (setup_view s) bytes why
-refused s bytes seen capacity (errors.Damaged at) same is damaged oc ot full = subst (λ (x : ℕ × List ℕ). IsDamaged (layout_of x.0 s) at x.1 ⊎ HasForeignRow (layout_of x.0 s) (row_of s.rows) (length s.names.tables) at x.1) (λ i. (is i, same i)) (damaged at refl)
+refused s bytes seen capacity (errors.Damaged at) same is damaged oc ot full = subst
+    (λ (x : ℕ × List ℕ). IsDamaged (layout_of x.0 s) at x.1 ⊎ HasForeignRow (layout_of x.0 s) (row_of s.rows) (length s.names.tables) at x.1) (λ i. (is i, same i)) (damaged at refl)
 refused s bytes seen capacity errors.OtherCapacity same is d oc ot full = subst (λ (x : ℕ × List ℕ). HasOtherCapacity (layout_of x.0 s) x.1) (λ i. (is i, same i)) (oc refl)
 refused s bytes seen capacity errors.OtherTables same is d oc ot full = subst (λ (x : ℕ × List ℕ). HasOtherLabel (layout_of x.0 s) x.1) (λ i. (is i, same i)) (ot refl)
-refused s bytes seen capacity errors.Full same is d oc ot full = subst (λ (x : ℕ × List ℕ). (half_size x.0 < 10 + length (layout_of x.0 s).label) ⊎ HasTooMany (layout_of x.0 s) (row_of s.rows) x.1) (λ i. (is i, same i)) (full refl)
+refused s bytes seen capacity errors.Full same is d oc ot full = subst (λ (x : ℕ × List ℕ). (half_size x.0 < 10 + length (layout_of x.0 s).label) ⊎ HasTooMany (layout_of x.0 s) (row_of s.rows) x.1)
+    (λ i. (is i, same i)) (full refl)
 refused s bytes seen capacity errors.DiskFault same is d oc ot full = tt
 refused s bytes seen capacity errors.OutOfMemory same is d oc ot full = tt
 
@@ -71,7 +73,8 @@ module _ (s : Setup) (bytes : List ℕ) (disk : MemDisk) (e : EngineModel) (j : 
       back : (X : Store) (H : List Event) (least : ℕ) (image : List ℕ) → TellsCommits (layout_of file_capacity s) X H least image → TellsCommits (layout_of capacity s) X H least image
       back X H least image = subst (λ (n : ℕ). TellsCommits (layout_of n s) X H least image) (sym is)
 
-  pub reopened : (f : Filed) → f.engine ≡ e → f.file.journal ≡ j → disk.capacity ≡ file_capacity → (length disk.log.steps ≤ length (calls f.file) → next_place f.file ≡ length disk.log.steps) → f.file.failed ≡ false
+  pub reopened : (f : Filed) → f.engine ≡ e → f.file.journal ≡ j → disk.capacity ≡ file_capacity → (length disk.log.steps ≤ length (calls f.file) → next_place f.file ≡ length disk.log.steps)
+      → f.file.failed ≡ false
       → contents disk.log.steps ≡ bytes → Only bytes (MayLeave disk.log.steps) → IsBeginning s e
       → HasTable (layout_of disk.capacity s) (row_of s.rows) (row_of e.store.rows) (contents disk.log.steps)
       → ((X : Store) (H : List Event) (least : ℕ) → IsSound X.setup → Lawful X.setup H → AllTell disk.capacity s X H least disk

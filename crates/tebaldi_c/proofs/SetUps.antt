@@ -1,5 +1,7 @@
 -- The engine of the next epoch has the setup of its tree text, and why there is none.
-use Rattle.std.proofs.Common.{◌≡◌, ℕ, List, []}
+use Rattle.std.proofs.Common.{◌≡◌, ℕ, List, [], length, ap, sym, ◌∙◌}
+use Rattle.teb_names.specs.declared.naming.NameBook.{NameBook}
+use Rattle.teb_rules.specs.Setup.{Store}
 use Rattle.store_setup.specs.declared.Setup.{Setup}
 use Rattle.store_setup.specs.SetupView.{SetupView, setup_view}
 use Rattle.store_setup.specs.Sound.{IsWhole, IsNamed, HasNames}
@@ -8,6 +10,7 @@ use Rattle.tree_switch.specs.Refusals.{IsCause}
 use Rattle.tree_switch.specs.Starts.{IsStarted}
 use Rattle.tree_switch.specs.declared.error.SwitchError.{SwitchError}
 use Rattle.tree_switch.specs.declared.error.SwitchError.TheVariants.{Again, Untold, Tables, Rows, OutOfMemory}
+use Rattle.printed_run.specs.Printed.{IsNamedBy}
 use Rattle.tebaldi_c.specs.Epochs.{IsHindrance}
 use Rattle.tebaldi_c.specs.Images.{IsReopened}
 use Rattle.tebaldi_c.specs.Shelves.{Filed}
@@ -34,3 +37,11 @@ hindered e m (Untold s) none cause = cause
 hindered e m Tables none cause = cause.1
 hindered e m Rows none cause = absurd (cause.2 none)
 hindered e m OutOfMemory none cause = tt
+
+-- all that the store of a setup has has a name
+pub named_by : (X : Store) (names : NameBook) → IsSetUp X names → IsNamedBy X names
+named_by X names s = record {
+  nodes = ap (λ (S : _). length S.tree) s.rules ∙ s.nodes ∙ sym (ap (λ (b : NameBook). length b.nodes) s.named);
+  are = rw s.named (record { tables = s.has_names.tables; types = s.has_names.types; nodes = s.has_names.nodes });
+  differ = rw s.named s.has_names.tables_differ;
+}

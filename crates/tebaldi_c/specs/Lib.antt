@@ -11,5 +11,6 @@ pub mod Holding
 pub mod Images
 pub mod Naming
 pub mod Opening
+pub mod RunText
 pub mod SetUp
 pub mod Shelves

@@ -116,7 +116,7 @@ pub extern "C" fn tebaldi_file_state(
     status
 }
 
-/// The form of what is known of a store's file.
+/// Returns the form of what is known of a store's file.
 fn file_form(file: &FileStore) -> FileForm
     ensures { IsFileForm (Some file.now.file) result }
 {

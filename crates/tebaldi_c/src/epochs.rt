@@ -183,7 +183,7 @@ fn end_epoch(alloc: Global, engine: &mut Engine<PooledChains>, setup: Setup, who
 /// Returns the engine of the next epoch: under a setup, with the rows that an engine leaves as its starting rows.
 ///
 /// # Errors
-/// The first of the causes that stands against it; the engine is only read.
+/// Returns the first cause that keeps the next epoch from beginning, if there is one. The engine is only read.
 #[tactic(auto, using(crate::proofs::SetUps::hindered))]
 fn next_engine(
     alloc: Global,

@@ -12,7 +12,7 @@ use std::alloc::Global;
 /// Reads the event at a place of the history: 0 is the oldest.
 ///
 /// # Errors
-/// `NOT_OPEN`; `NO_SUCH` if there are not so many events. At each of them `event` is unchanged.
+/// `NOT_OPEN`; `NO_SUCH` if there are fewer events. At each of them `event` is unchanged.
 #[unsafe(no_mangle)]
 pub extern "C" fn tebaldi_event(
     alloc: Global,

@@ -2,7 +2,7 @@
 
 ghost use Rattle.std.specs.Prelude.{◌≡◌, ◌≢◌, ◌<◌, ◌+◌, ◌||◌, true, false, length, slice_get, Some, MatchOption, IfOk, IfErr, OnOk, OnErr, IsErrOf, ◌⊎◌};
 ghost use Rattle.teb_rules.specs.Answer.{answer};
-ghost use Rattle.crash_disk.specs.Log.{step_of};
+ghost use Rattle.crash_disk.specs.Log.{contents, step_of};
 ghost use Rattle.epoch_journal.specs.Layout.{half_size};
 ghost use Rattle.epoch_store.specs.Told.{IsToldBy, events_after, told};
 ghost use Rattle.epoch_store.specs.declared.error.AskError.TheVariants as asked;
@@ -15,6 +15,7 @@ ghost use Rattle.tebaldi_c.specs.Hindered.{HasCommitted, IsFullFor, IsStopped};
 ghost use Rattle.tebaldi_c.specs.Shelves.{calls, next_place};
 
 use chain_pool::PooledChains;
+use core::mem::replace_with;
 use crash_disk::{Call, MemDisk};
 use engine_core::Engine;
 use engine_store::{AskError, EngineStore, NextError};
@@ -22,6 +23,9 @@ use std::alloc::Global;
 use std::marker::Model;
 use store_setup::Setup;
 use teb_names::{Reply, Request, Session};
+
+/// How many calls the disk in memory notes before it forgets them: those of the commits of one epoch.
+const MOST_CALLS: usize = 32_768;
 
 /// A store in a file. It makes no call of the system: its disk in memory notes the writes and syncs, the caller performs them on the file
 /// in their order, and tells of each.
@@ -48,21 +52,21 @@ impl Model for FileStore {
 }
 
 impl FileStore {
-    /// The engine of the present epoch.
+    /// Returns the engine of the present epoch.
     pub fn engine(&self) -> &Engine<PooledChains>
         ensures { result.now ≡ self.now.engine }
     {
         self.store.engine()
     }
 
-    /// The number of calls that wait to be performed on the file.
+    /// Returns the number of calls that wait to be performed on the file.
     pub fn waiting(&self) -> usize
         ensures { result ≡ self.now.file.waiting }
     {
         self.waiting
     }
 
-    /// The number of commits of this epoch that are in the file: a crash now leaves the rows after at least so many of them.
+    /// Returns the number of commits of this epoch that are in the file: a crash now leaves the rows after at least that many.
     pub fn kept(&self) -> u64
         ensures { result ≡ self.now.file.kept }
     {
@@ -76,14 +80,14 @@ impl FileStore {
         self.failed || self.store.is_stopped()
     }
 
-    /// The number of bytes that are left for the commits of this epoch.
+    /// Returns the number of bytes that are left for the commits of this epoch.
     pub fn left(&self) -> u64
         ensures { result + self.now.file.journal.end ≡ half_size self.now.file.journal.layout.capacity }
     {
         self.store.left()
     }
 
-    /// The first call that waits, with the bytes to write; a sync has none. `None` if none waits.
+    /// Returns the first call that waits, with the bytes to write; a sync has none. `None` if none waits.
     pub fn call(&self) -> Option<(Call, &[u8])>
         ensures { MatchOption result (self.now.file.waiting ≡ 0) (λ r. slice_get (calls self.now.file) (next_place self.now.file) ≡ Some (step_of r.0 r.1.now)) }
     {
@@ -124,7 +128,7 @@ impl FileStore {
     }
 
     /// Answers a request as the engine does. The calls that put a commit into the file wait then, and until they are performed the commit
-    /// is to be told to nobody.
+    /// is to be told to nobody. If it makes no call, it forgets the calls that were performed, once there are more than `MOST_CALLS`.
     ///
     /// # Errors
     /// Those of `EngineStore::ask`; `Stopped` also if a call on the file has failed.
@@ -162,7 +166,25 @@ impl FileStore {
             return answered;
         }
         self.kept = self.store.acknowledged();
+        self.forget_calls(alloc);
         answered
+    }
+
+    /// Forgets the calls that were performed, if there are more than `MOST_CALLS` of them, and frees the memory that they take. If that
+    /// is out of memory, they are kept.
+    fn forget_calls(&mut self, alloc: Global)
+        requires settled { self.old.file.waiting ≡ 0 }
+        ensures engine { self.new.engine ≡ self.old.engine }
+        ensures waiting { self.new.file.waiting ≡ 0 }
+        ensures kept { self.new.file.kept ≡ self.old.file.kept }
+        ensures failed { self.new.file.failed ≡ self.old.file.failed }
+        ensures stopped { self.new.file.journal.stopped ≡ self.old.file.journal.stopped }
+        ensures bytes { contents (calls self.new.file) ≡ contents (calls self.old.file) }
+    {
+        if self.store.disk().call_count() > MOST_CALLS {
+            replace_with(&mut self.store, alloc, without_calls);
+            let _ = self.store.disk();
+        }
     }
 
     /// Ends the present epoch, and begins the next one. The calls that put its rows into the file wait then.
@@ -195,5 +217,21 @@ impl FileStore {
             Ok(_past) => Ok(()),
             Err(why) => Err(why),
         }
+    }
+}
+
+/// Returns the same store on a renewed disk, or as it is if that is out of memory.
+fn without_calls(
+    store: EngineStore<PooledChains, MemDisk>,
+    alloc: Global,
+) -> (EngineStore<PooledChains, MemDisk>, ())
+    ensures engine { result.0.engine ≡ store.engine }
+    ensures acknowledged { result.0.journal.acknowledged ≡ store.journal.acknowledged }
+    ensures stopped { result.0.journal.stopped ≡ store.journal.stopped }
+    ensures bytes { contents result.0.journal.disk.log.steps ≡ contents store.journal.disk.log.steps }
+{
+    match store.renew(alloc) {
+        Ok(store) => (store, ()),
+        Err(store) => (store, ()),
     }
 }

@@ -44,7 +44,7 @@ impl Held {
         }
     }
 
-    /// The shelf that is held.
+    /// Returns the shelf that is held.
     pub fn into_parts(self) -> Parts<Shelf, Global>
         requires { IsSome self.value }
         ensures { self.value ≡ Some result.value }

@@ -99,7 +99,7 @@ fn tell_why(why: OpenError, place: &mut u64) -> u32
     }
 }
 
-/// The store of some bytes under a setup.
+/// Returns the store of some bytes under a setup.
 #[tactic(auto, using(crate::proofs::SetUps::set_up_reopened))]
 fn shelf_of(alloc: Global, image: &[u8], setup: Setup) -> Result<Box<Shelf>, OpenError>
     requires whole { IsWhole (setup_view setup) }
@@ -137,7 +137,7 @@ impl FileStore {
         }
     }
 
-    /// The store with the calls after the first `before` ones waiting.
+    /// Returns the store with the calls after the first `before` ones waiting.
     fn begun(store: EngineStore<PooledChains, MemDisk>, before: usize) -> FileStore
         requires acknowledged { store.journal.acknowledged ≡ 0 }
         requires events { store.engine.events ≡ [] }

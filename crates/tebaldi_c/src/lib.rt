@@ -14,7 +14,8 @@
 //! | `tebaldi_ask`, `tebaldi_next_epoch` | answer a request; end the epoch, and begin the next under another tree text |
 //! | `tebaldi_event`, `tebaldi_order`, `tebaldi_rows` | an event of the history, the serial order, the final rows |
 //! | `tebaldi_number`, `tebaldi_name`, `tebaldi_line` | names and numbers; the line of a reply |
-//! | `tebaldi_audit`, `tebaldi_version` | check a printed run; tell the version. They need no store |
+//! | `tebaldi_run_text`, `tebaldi_audit` | the printed run of the present epoch; check a printed run, which needs no store |
+//! | `tebaldi_version` | tell the version, which needs no store |
 //!
 //! - A *handle* is the struct that C has of a store. It is closed if all its bytes are 0.
 //! - A *shelf* is what an open handle points to. Its store is that of a setup that is whole and has all names (its invariant).
@@ -46,6 +47,7 @@ mod naming;
 mod opening;
 mod parts;
 mod rows;
+mod run_text;
 mod sending;
 mod shelf;
 mod status;

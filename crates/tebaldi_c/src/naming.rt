@@ -89,7 +89,7 @@ fn list_of(book: &NameBook, list: u8) -> &Names
     }
 }
 
-/// The number of a name, or `None` if it is not there.
+/// Returns the number of a name, or `None` if it is not there.
 fn number_in(names: &Names, name: &[u8]) -> Option<u8>
     ensures { result ≡ number_of names.now name.now }
 {

@@ -58,7 +58,7 @@ pub extern "C" fn tebaldi_close(alloc: Global, store: &mut StoreHandle)
     let _shelf = store.take(alloc);
 }
 
-/// The store of a tree text.
+/// Returns the store of a tree text.
 fn shelf_of(alloc: Global, tree: &[u8]) -> Result<Box<Shelf>, TreeText>
     ensures ok { IfOk result (λ b. IsNewOf (setup_of_text tree.now) b.value) }
     ensures err { IfErr result (λ why. why ≢ faults.OutOfMemory → setup_of_text tree.now ≡ Err why) }

@@ -82,7 +82,7 @@ pub extern "C" fn tebaldi_rows(
     status
 }
 
-/// The numbers of the committed transactions, in the serial order.
+/// Returns the numbers of the committed transactions, in the serial order.
 fn numbers(alloc: Global, engine: &Engine<PooledChains>) -> Result<Vec<u32>, AllocError>
     ensures { IfOk result (λ v. v.items ≡ serial_order engine.now.store.setup engine.now.events) }
 {
@@ -99,7 +99,7 @@ fn numbers_of(alloc: Global, txns: &[Txn]) -> Result<Vec<u32>, AllocError>
     Ok(numbers)
 }
 
-/// The rows of the final tables, in ascending order.
+/// Returns the rows of the final tables, in ascending order.
 fn forms(alloc: Global, engine: &Engine<PooledChains>) -> Result<Vec<RowForm>, AllocError>
     ensures { IfOk result (λ v. (rows : List (TheCell × ℤ)) × (IsFinalRows engine.now.store engine.now.events rows × (v.items ≡ row_forms rows))) }
 {

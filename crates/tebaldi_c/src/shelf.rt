@@ -30,7 +30,7 @@ impl Shelf {
     ghost use Rattle.tebaldi_c.specs.Asking.{IfFile};
     ghost use Rattle.tebaldi_c.specs.Calls.{FilesAfter, FilesFailed};
 
-    /// The engine of the present epoch.
+    /// Returns the engine of the present epoch.
     pub fn engine(&self) -> &Engine<PooledChains>
         ensures { result.now ≡ self.now.engine }
     {

@@ -9,4 +9,5 @@ use Rattle.hall_runner.proofs.serving.serve_input.Goals as goal
 
 pub serve_scripts-requires-clause-ascending : goal.serve_scripts-requires-clause-ascending
 serve_scripts-requires-clause-ascending g c κs within =
-    subst (λ (ss : List (Session × List Line)). Ascending 0 (scripts_on ss)) (sym (c.in_ok-scripts.ensures ∙ ap scripts_of c.deref.ensures.value)) (scripts_ascend c.into_parts-setup.result.1.items c.into_parts-setup.ensures.lines.1)
+    subst (λ (ss : List (Session × List Line)). Ascending 0 (scripts_on ss)) (sym (c.in_ok-scripts.ensures ∙ ap scripts_of c.deref.ensures.value))
+    (scripts_ascend c.into_parts-setup.result.1.items c.into_parts-setup.ensures.lines.1)

@@ -18,5 +18,6 @@ returns-clause-turns g c =
     let H = c.turns.new.engine.events in
     let scripts = c.in_ok-scripts.scripts in
     let Tells = g.G.Log.tells c.turns.new.log c.args.engine.now.names in
-    IfOk-weaker c.turns.result (λ _. AreAnswers (Turns X (scripts_on scripts)) X (scripts_on scripts) Tells H c.new-steps.result c.turns.new.steps) (λ _. (answers : List Answered) × Tells answers × AreTurns X c.args.lines.now answers H)
+    IfOk-weaker c.turns.result (λ _. AreAnswers (Turns X (scripts_on scripts)) X (scripts_on scripts) Tells H c.new-steps.result c.turns.new.steps)
+    (λ _. (answers : List Answered) × Tells answers × AreTurns X c.args.lines.now answers H)
     (λ _ a. turned X c.args.lines.now scripts Tells H c.new-steps.result c.turns.new.steps c.in_ok-scripts.ensures a) c.turns.ensures.ok

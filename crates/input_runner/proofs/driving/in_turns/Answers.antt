@@ -26,5 +26,6 @@ returns g c =
       told = subst (λ (n : NameBook). g.G.Log.tells c.drive.new.log n t.0) (sym c.drive.ensures.names) t.1;
       ran = subst₂ (λ (X : Store) (lines : List Line). AreTurns X lines t.0 H) (c.in_ok-engine.ensures.store ∙ ap store_of_view is) (c.deref.ensures.value ∙ c.into_parts-setup.ensures.lines.0) t.2;
       over = turns_over c.args.input.setup c.in_ok-engine.engine.store c.drive.new.engine.store c.drive.new.engine.names t.0 H (subst IsWhole is c.into_parts-setup.ensures.whole)
-          (subst IsNamed is c.into_parts-setup.ensures.named) (c.in_ok-engine.ensures.store ∙ ap store_of_view is) c.drive.ensures.store (c.drive.ensures.names ∙ c.in_ok-engine.ensures.names ∙ ap names_of is) (scripts_of c.deref.result.now) t.2.turns;
+          (subst IsNamed is c.into_parts-setup.ensures.named) (c.in_ok-engine.ensures.store ∙ ap store_of_view is) c.drive.ensures.store
+          (c.drive.ensures.names ∙ c.in_ok-engine.ensures.names ∙ ap names_of is) (scripts_of c.deref.result.now) t.2.turns;
     }

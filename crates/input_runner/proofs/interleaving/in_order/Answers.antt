@@ -20,7 +20,9 @@ returns g c =
     record {
       answers = answers;
       told = subst (λ (n : NameBook). g.L.Log.tells c.replay.new.log n answers) (sym c.replay.ensures.names) told;
-      ran = replayed_is X (store_of_view c.args.input.setup) H K lines c.args.input.lines store c.in_ok-engine.ensures.events (c.deref.ensures.value ∙ c.into_parts-setup.ensures.lines.0) c.in_ok-replay.ensures.events;
+      ran = replayed_is X (store_of_view c.args.input.setup) H K lines c.args.input.lines store c.in_ok-engine.ensures.events (c.deref.ensures.value ∙ c.into_parts-setup.ensures.lines.0)
+          c.in_ok-replay.ensures.events;
       over = replay_over c.args.input.setup X c.replay.new.engine.store c.replay.new.engine.names answers K (subst IsWhole is c.into_parts-setup.ensures.whole)
-          (subst IsNamed is c.into_parts-setup.ensures.named) store c.replay.ensures.store (c.replay.ensures.names ∙ named) [] H lines refl c.in_ok-engine.ensures.events refl c.in_ok-replay.ensures.events;
+          (subst IsNamed is c.into_parts-setup.ensures.named) store c.replay.ensures.store (c.replay.ensures.names ∙ named) [] H lines refl c.in_ok-engine.ensures.events refl
+          c.in_ok-replay.ensures.events;
     }

@@ -14,7 +14,8 @@ returns-clause-shown c =
     let task = c.no_replies-replies.new.input in
     let run = c.in_ok-engine.ensures in
     subst (λ (t : Task). IsRun IsReplay IsReport t c.output_of.result) c.no_replies-replies.ensures.same
-    (is_run IsReplay IsReport (HasLines c.in_order.new.log) task c.in_ok-engine.engine c.output_of.result c.in_ok-text.text.items run (c.in_ok-text.ensures task.setup run.answers run.over run.told) c.output_of.ensures)
+    (is_run IsReplay IsReport (HasLines c.in_order.new.log) task c.in_ok-engine.engine c.output_of.result c.in_ok-text.text.items run (c.in_ok-text.ensures task.setup run.answers run.over run.told)
+    c.output_of.ensures)
 
 pub returns-clause-serialized : goal.returns-clause-serialized
 returns-clause-serialized c =

@@ -7,4 +7,5 @@ loop-part-smaller c = omega (arith, shorter c.loop-part.rest.now c.in-Some.part.
 
 pub loop-part-preserved : goal.loop-part-preserved
 loop-part-preserved c =
-    one_cut c.args.bytes.now c.loop-part.rest.now c.in-Some.behind.now c.loop-part.parts.items c.push.new.self.items c.in-Some.part (sym c.in-Some.ensures) c.in_ok-push.ensures.items c.loop-part.invariant
+    one_cut c.args.bytes.now c.loop-part.rest.now c.in-Some.behind.now c.loop-part.parts.items c.push.new.self.items c.in-Some.part (sym c.in-Some.ensures) c.in_ok-push.ensures.items
+    c.loop-part.invariant

@@ -26,7 +26,8 @@ pub loop-i-preserved : goal.loop-i-preserved
 loop-i-preserved c =
     let xs = c.loop-i.tasks.items in
     let last = subst (λ (n : ℕ). IfSome c.back.result (λ x. x.now ≡ get_or xs (n - 1) x.now)) c.loop-i.tasks.ok.0 c.back.ensures.lookup in
-    pair_read c.args.parts.now c.loop-i.i xs _ _ (omega (arith, c.loop-i-test.true)) c.back.result c.back.ensures.item.0 last c.in_ok-task.task c.push_back.new.self.items c.in_ok-task.ensures c.in_ok-push_back.ensures.items
+    pair_read c.args.parts.now c.loop-i.i xs _ _ (omega (arith, c.loop-i-test.true)) c.back.result c.back.ensures.item.0 last c.in_ok-task.task c.push_back.new.self.items c.in_ok-task.ensures
+    c.in_ok-push_back.ensures.items
     ∙ c.loop-i.invariant
 
 pub returns : goal.returns

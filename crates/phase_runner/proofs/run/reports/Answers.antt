@@ -11,7 +11,8 @@ loop-task-init c =
     let text = c.first_phase.new.text.items in
     let all = c.in-Some.ensures.items in
     subst (λ (tasks : List Task). MayGoOn tasks later p text) (sym all)
-    (first_run c.in-Some.first later p c.new-text.result.items text c.in_ok-phases.ensures.course c.in_ok-phases.ensures.past c.new-text.ensures.items (subst AreFollowing all c.requires) c.in_ok-phases.ensures.run)
+    (first_run c.in-Some.first later p c.new-text.result.items text c.in_ok-phases.ensures.course c.in_ok-phases.ensures.past c.new-text.ensures.items (subst AreFollowing all c.requires)
+    c.in_ok-phases.ensures.run)
 
 pub next_phase-requires-clause-may : goal.next_phase-requires-clause-may
 next_phase-requires-clause-may c =

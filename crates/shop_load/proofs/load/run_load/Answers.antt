@@ -13,7 +13,8 @@ returns-clause-shown c =
     let n = c.args.number in
     let size = c.args.size in
     subst (λ (task : Task). IsRun AreTurns (λ X names H log text. IsSummary n size X H log text) task c.output_of.result) c.in_ok-load_input.ensures
-    (is_run AreTurns (λ X names H log text. IsSummary n size X H log text) _ _ c.in_ok-engine.engine c.output_of.result c.in_ok-text.text.items run (c.in_ok-text.ensures run.answers (sym run.told)) c.output_of.ensures)
+    (is_run AreTurns (λ X names H log text. IsSummary n size X H log text) _ _ c.in_ok-engine.engine c.output_of.result c.in_ok-text.text.items run (c.in_ok-text.ensures run.answers (sym run.told))
+    c.output_of.ensures)
 
 pub returns-clause-serialized : goal.returns-clause-serialized
 returns-clause-serialized c =

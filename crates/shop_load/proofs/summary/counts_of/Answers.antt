@@ -25,8 +25,10 @@ loop-i-preserved c =
     let H = c.args.history.now.events in
     let i = c.loop-i.i in
     record {
-      committed = ap₂ (λ (a b : ℕ). a + b) c.loop-i.invariant.committed (c.from.ensures ∙ bit_is c.is_committed.result ∙ ap (λ (b : Bool). cond b 1 0) c.is_committed.ensures) ∙ sym (counted_more (committed H) i);
-      aborted = ap₂ (λ (a b : ℕ). a + b) c.loop-i.invariant.aborted (c.from-in-loop-i.ensures ∙ bit_is c.is_aborted.result ∙ ap (λ (b : Bool). cond b 1 0) c.is_aborted.ensures) ∙ sym (counted_more (aborted H) i);
+      committed = ap₂ (λ (a b : ℕ). a + b) c.loop-i.invariant.committed (c.from.ensures ∙ bit_is c.is_committed.result ∙ ap (λ (b : Bool). cond b 1 0) c.is_committed.ensures)
+          ∙ sym (counted_more (committed H) i);
+      aborted = ap₂ (λ (a b : ℕ). a + b) c.loop-i.invariant.aborted (c.from-in-loop-i.ensures ∙ bit_is c.is_aborted.result ∙ ap (λ (b : Bool). cond b 1 0) c.is_aborted.ensures)
+          ∙ sym (counted_more (aborted H) i);
     }
 
 pub returns-clause-committed : goal.returns-clause-committed

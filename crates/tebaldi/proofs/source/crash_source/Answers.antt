@@ -10,7 +10,8 @@ run_crash-requires g c = few_lines c.in-Ok.ensures.read.0 c.in-Ok.read c.in-Ok.e
 
 pub returns-in-Ok-clause-right : goal.returns-in-Ok-clause-right
 returns-in-Ok-clause-right g c = λ nf nm.
-    right_of _ _ c.put_out.result _ _ (Some (Crash c.args.stop)) (IsCrash c.args.stop) (λ bytes d s. (s, c.put_out.ensures.alone)) (λ bytes m s. s) c.in-Ok.read c.in-Ok.ensures.read c.run_crash.result c.run_crash.ensures.shown c.run_crash.ensures.serialized c.put_out.ensures.written nm
+    right_of _ _ c.put_out.result _ _ (Some (Crash c.args.stop)) (IsCrash c.args.stop) (λ bytes d s. (s, c.put_out.ensures.alone)) (λ bytes m s. s) c.in-Ok.read c.in-Ok.ensures.read c.run_crash.result
+    c.run_crash.ensures.shown c.run_crash.ensures.serialized c.put_out.ensures.written nm
 
 pub returns-in-Err-clause-right : goal.returns-in-Err-clause-right
 returns-in-Err-clause-right g c = λ nf nm.

@@ -5,7 +5,8 @@ use Rattle.tebaldi.proofs.source.pool_source.Goals as goal
 
 pub returns-in-Ok-clause-right : goal.returns-in-Ok-clause-right
 returns-in-Ok-clause-right g c = λ nf nm.
-    pooled_of _ _ c.put_served.result _ _ c.args.workers c.in-Ok.read c.in-Ok.ensures.read c.serve_by_pool.result c.serve_by_pool.ensures.served c.serve_by_pool.ensures.serialized c.put_served.ensures.written nm
+    pooled_of _ _ c.put_served.result _ _ c.args.workers c.in-Ok.read c.in-Ok.ensures.read c.serve_by_pool.result c.serve_by_pool.ensures.served c.serve_by_pool.ensures.serialized
+    c.put_served.ensures.written nm
 
 pub returns-in-Err-clause-right : goal.returns-in-Err-clause-right
 returns-in-Err-clause-right g c = λ nf nm.

@@ -6,7 +6,8 @@ use Rattle.tebaldi.proofs.source.turn_source.Goals as goal
 
 pub returns-in-Ok-clause-right : goal.returns-in-Ok-clause-right
 returns-in-Ok-clause-right g c = λ nf nm.
-    right_of _ _ c.put_out.result _ _ (Some Turns) (IsRun AreTurns IsReport) (λ bytes d s. (s, c.put_out.ensures.alone)) (λ bytes m s. s) c.in-Ok.read c.in-Ok.ensures.read c.run_turns.result c.run_turns.ensures.shown c.run_turns.ensures.serialized c.put_out.ensures.written nm
+    right_of _ _ c.put_out.result _ _ (Some Turns) (IsRun AreTurns IsReport) (λ bytes d s. (s, c.put_out.ensures.alone)) (λ bytes m s. s) c.in-Ok.read c.in-Ok.ensures.read c.run_turns.result
+    c.run_turns.ensures.shown c.run_turns.ensures.serialized c.put_out.ensures.written nm
 
 pub returns-in-Err-clause-right : goal.returns-in-Err-clause-right
 returns-in-Err-clause-right g c = λ nf nm.

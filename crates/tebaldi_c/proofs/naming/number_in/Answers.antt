@@ -11,7 +11,8 @@ use borrow.Author.Count.{below_more}
 -- a name that differs from each of the first ones, if these are all, is not there
 none_has : (names : List (List ℕ)) (name : List ℕ) (n : ℕ) → length names ≤ n → ((k : ℕ) → k < n → bytes_eq name (get_or names k []) ≡ false) → number_of names name ≡ None
 none_has names name n all differ =
-    let at : position_or_len (bytes_eq name) names ≡ length names = position_or_len_is (bytes_eq name) names (length names) [] (omega arith) (λ k low. differ k (omega arith)) (λ low. absurd (omega arith)) in
+    let at : position_or_len (bytes_eq name) names ≡ length names = position_or_len_is (bytes_eq name) names (length names) [] (omega arith) (λ k low. differ k (omega arith))
+    (λ low. absurd (omega arith)) in
     grind (arith, common_steps, at)
 
 differs : (names : List (List ℕ)) (name x : List ℕ) (n : ℕ) → slice_get names n ≡ Some x → bytes_eq name x ≡ false → bytes_eq name (get_or names n []) ≡ false

@@ -19,7 +19,8 @@ invariant_of-self-then-waiting-gt0 c =
     moved new.engine
     (record { journal = new.journal; waiting = c.call_count.result - c.call_count-before.result; opened = s.opened; kept = s.kept; failed = s.failed })
     was.journal.disk (λ i. after i - before i)
-    (subst (λ (x : Layout × ℕ). LeavesOnly clock images was.journal.disk new.journal.disk (TellsCommits x.0 new.engine.store new.engine.events x.1)) (λ i. (sym c.ask.ensures.layout i, sym settled.1 i)) c.ask.ensures.any_moment)
+    (subst (λ (x : Layout × ℕ). LeavesOnly clock images was.journal.disk new.journal.disk (TellsCommits x.0 new.engine.store new.engine.events x.1))
+    (λ i. (sym c.ask.ensures.layout i, sym settled.1 i)) c.ask.ensures.any_moment)
     (λ none. absurd (omega (arith, none, some)))
     c.ask.ensures.all
 

@@ -24,7 +24,8 @@ invariant_of-self c =
       | in-Ok w ↦
           (let kept = c.acknowledged-kept.ensures ∙ w.in-Ok.ensures.running.0 in
           moved new.engine file was.journal.disk (λ i. after i - before i)
-          (subst (λ (n : ℕ). LeavesOnly clock images was.journal.disk new.journal.disk (TellsCommits new.journal.layout new.engine.store new.engine.events n)) (sym kept) w.in-Ok.ensures.any_moment_next)
+          (subst (λ (n : ℕ). LeavesOnly clock images was.journal.disk new.journal.disk (TellsCommits new.journal.layout new.engine.store new.engine.events n))
+          (sym kept) w.in-Ok.ensures.any_moment_next)
           (λ _. (settled.0, c.acknowledged-kept.ensures))
           (λ _. w.in-Ok.ensures.running.0 ∙ sym (ap commit_count w.in-Ok.ensures.begun.1.events ∙ no_commits)))
       | in-Err w ↦

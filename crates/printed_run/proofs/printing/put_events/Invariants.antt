@@ -3,7 +3,7 @@ use Rattle.std.specs.List.{flat_map}
 use Rattle.teb_history.specs.declared.Event.{Event}
 use Rattle.script_text.specs.Ranges.{EventInRange}
 use Rattle.script_text.specs.Texts.{event_text}
-use Rattle.hall_runner.proofs.printed.put_events.Given as goal
+use Rattle.printed_run.proofs.printing.put_events.Given as goal
 
 abbrev pub invariant-loop-event : goal.invariant-loop-event
 invariant-loop-event l = record {

@@ -52,4 +52,5 @@ module _ (m : SetupView) (whole : IsWhole m) (named : IsNamed m) where
   -- of a history, the oldest event first
   pub all_named : (H : List Event) → AllWithin (store_of_view m) H → All (EventNamed (names_of m)) (reverse H)
   all_named [] h = All-nil (EventNamed (names_of m))
-  all_named (e ∷ P) h = subst (All (EventNamed (names_of m))) (sym (reverse-append (e ∷ []) P)) (All-append (EventNamed (names_of m)) (reverse P) (e ∷ []) (all_named P h.1) (All-cons (EventNamed (names_of m)) e [] (event_named e h.0) (All-nil (EventNamed (names_of m)))))
+  all_named (e ∷ P) h = subst (All (EventNamed (names_of m))) (sym (reverse-append (e ∷ []) P))
+      (All-append (EventNamed (names_of m)) (reverse P) (e ∷ []) (all_named P h.1) (All-cons (EventNamed (names_of m)) e [] (event_named e h.0) (All-nil (EventNamed (names_of m)))))

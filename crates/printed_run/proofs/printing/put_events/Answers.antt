@@ -3,8 +3,8 @@ use Rattle.std.proofs.lemmas.List.{get_or_default}
 use Rattle.std.proofs.lemmas.List.Elements.{AllWithin-more}
 use Rattle.script_text.specs.Ranges.{EventInRange}
 use Rattle.script_text.specs.Texts.{event_text}
-use Rattle.hall_runner.proofs.Written.{written_more}
-use Rattle.hall_runner.proofs.printed.put_events.Goals as goal
+use Rattle.printed_run.proofs.Written.{written_more}
+use Rattle.printed_run.proofs.printing.put_events.Goals as goal
 
 pub loop-event-preserved : goal.loop-event-preserved
 loop-event-preserved c =

@@ -1,0 +1,5 @@
+pub mod Names
+pub mod Histories
+mod Audited
+mod Engines
+mod Written
