@@ -66,7 +66,7 @@ fn write_and_read<C: Chains, R: Wait + Abort>(
     expect_poll(rt, hall, reader, Txn(1), committed);
 }
 
-// What stands in the history and the entries once the sessions 31 and 32 have written and read.
+// The history and the entries once the sessions 31 and 32 have written and read.
 fn closed_after<C: Chains, R: Wait + Abort>(
     rt: &R,
     hall: Hall<C>,

@@ -35,7 +35,7 @@ impl Hold {
         }
     }
 
-    /// Whether the limit of looks was reached.
+    /// Returns true if the limit of looks was reached.
     pub(crate) fn gave_up(&self) -> bool {
         self.gave_up.load(SeqCst)
     }

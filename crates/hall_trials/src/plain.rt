@@ -25,7 +25,7 @@ pub(crate) const CELL: Cell = Cell {
     key: 1,
 };
 
-/// A hall that was asked nothing yet, and the passes of the sessions 1 to `SESSIONS`, in order.
+/// Returns a hall that was asked nothing yet, and the passes of the sessions 1 to `SESSIONS`, in order.
 pub(crate) fn plain_hall<R: Abort>(
     rt: &R,
     alloc: Global,

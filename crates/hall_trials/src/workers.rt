@@ -16,7 +16,7 @@ use teb_names::Session;
 /// How many transactions each session has, where it has many.
 const MANY: usize = 100;
 
-/// A transaction of each of three sessions, on a cell of its own.
+/// A transaction of each of three sessions, each on another cell.
 const FIRST: &[u8] = b"1 begin any\n1 add t 1 1\n1 commit\n";
 
 const SECOND: &[u8] = b"2 begin any\n2 add t 2 1\n2 commit\n";
@@ -70,7 +70,7 @@ fn done_count(events: &[Event]) -> usize {
         .count()
 }
 
-// The scripts of two sessions, each with so many transactions, on a cell of its own.
+// The scripts of two sessions, each with `transactions` transactions, on two cells.
 fn scripts_of_two(alloc: Global, transactions: usize) -> Result<Vec<u8>, AllocError> {
     let mut text = b"%%\n".to_vec(alloc)?;
     for _ in 0..transactions {
@@ -100,7 +100,7 @@ fn a_session_is_served_while_another_is_held(rt: HostRuntime) -> Result<(), Fail
     Ok(())
 }
 
-// Where session i went to worker i mod 2, session 3 would wait behind session 1, which is held for it.
+// If session i went to worker i mod 2, session 3 would wait for session 1, which is held for it.
 #[test]
 fn a_worker_takes_the_next_session_while_another_is_held(rt: HostRuntime) -> Result<(), Fail> {
     let first = SessionLine {
