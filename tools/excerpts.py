@@ -1,13 +1,40 @@
 #!/usr/bin/env python3
-"""Checks that the code shown in docs/ and README.md is cut out of the files that it names, and that each file that a page links to is there.
+"""Checks that the code shown in docs/ and README.md is cut out of the files that it names, and that the links of each page lead to what they name.
 
-A block below a line `<!-- excerpt: FILE -->` is a run of lines of that file. The last line is `excerpts: N passed, M failed`; the links of a page count as one.
+A block below a line `<!-- excerpt: FILE -->` is a run of lines of that file. A link leads to a file, or to a heading of a page. If the text of a link is names in
+backticks, each is in the file or in its path. The last line is `excerpts: N passed, M failed`; the links of a page count as one.
 """
 import pathlib
 import re
 import sys
 
 TOP = pathlib.Path(__file__).resolve().parent.parent
+
+
+def headings(page):
+    """The anchors of a page: one for each heading."""
+    text = re.sub(r"(?ms)^```.*?^```$", "", page.read_text())
+    return {re.sub(r"[^\w\- ]", "", it.lower()).replace(" ", "-") for it in re.findall(r"(?m)^#+ (.*)$", text)}
+
+
+def missing(text, file):
+    """The names in backticks of a link's text that are neither in the file nor in its path; none if the text is anything else."""
+    if not file.is_file() or not re.fullmatch(r"`[^`]+`(, `[^`]+`)*", text):
+        return []
+    words = [it.split()[0].split("::")[-1] for it in re.findall(r"`([^`]+)`", text)]
+    return [it for it in words if it not in str(file.relative_to(TOP)) and not re.search(rf"\b{re.escape(it)}\b", file.read_text())]
+
+
+def faults_of_links(page):
+    """What is wrong with the links of a page."""
+    for text, name, anchor in re.findall(r"\[([^\]]*)\]\(([^)#:]*)(?:#([^)]*))?\)", page.read_text()):
+        file = (page.parent / name).resolve() if name else page
+        if not file.exists():
+            yield f"there is no {name}"
+            continue
+        if anchor and anchor not in headings(file):
+            yield f"{file.name} has no heading {anchor}"
+        yield from (f"{it} is not in {name}" for it in missing(text, file))
 
 
 def main():
@@ -19,10 +46,10 @@ def main():
             passed, failed = passed + is_there, failed + (not is_there)
             if not is_there:
                 print(f"FAILED {page.name}: the block that begins with `{block.splitlines()[0].strip()}` is not in {name}")
-        broken = [it for it in re.findall(r"\]\(([^)#:]+)(?:#[^)]*)?\)", page.read_text()) if not (page.parent / it).exists()]
-        passed, failed = passed + (not broken), failed + bool(broken)
-        for name in broken:
-            print(f"FAILED {page.name}: there is no {name}")
+        faults = list(faults_of_links(page))
+        passed, failed = passed + (not faults), failed + bool(faults)
+        for fault in faults:
+            print(f"FAILED {page.name}: {fault}")
     print(f"excerpts: {passed} passed, {failed} failed")
     return 1 if failed else 0
 
