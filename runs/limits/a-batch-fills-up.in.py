@@ -1,4 +1,4 @@
-"""A transaction of session 2, which stays at work, and then 63 of session 1 and one more, over a timestamp root that does not say how many a batch admits."""
+"""A transaction of session 2, which stays active, and then 63 of session 1 and one more, over a timestamp root that does not say how many a batch admits."""
 print("""format = 1
 tables = ["t"]
 [[type]]

@@ -1,2 +1,0 @@
-"""Two empty scripts, a separator before and behind a blank tree, and 65,536 lines behind the first separator in all."""
-print("%%\n" + "\n" * 30_000 + "%%\n%%\n" + "\n" * 35_534, end="")
