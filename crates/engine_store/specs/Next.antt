@@ -2,6 +2,7 @@
 use Rattle.std.specs.Prelude.{◌≡◌, ◌≢◌, ℕ, ◌+◌, ◌*◌, ◌<◌, ℤ, List, length}
 use Rattle.teb_names.specs.declared.Cell.{Cell}
 use Rattle.engine_core.specs.EngineModel.{EngineModel}
+use Rattle.crash_disk.specs.Calls.{Tally, IsUpTo}
 use Rattle.serial_order.specs.Tables.{IsFinalRows}
 use Rattle.tree_switch.specs.Refusals.{IsLeast, IsUnfinished, IsUntold, AllFinished, IsDrained}
 use Rattle.epoch_journal.specs.Layout.{Layout, half_size}
@@ -20,6 +21,12 @@ pub record HasNoRoom (l : Layout) (e : EngineModel) : Type 0 where
   pub rows : List (Cell × ℤ)
   pub final : IsFinalRows e.store e.events rows
   pub long : half_size l.capacity < 10 + length l.label + 14 * length rows
+
+-- at most four calls of the disk, which write the label, the final rows, and the byte that makes their half current
+pub record WritesFinalRows (l : Layout) (e : EngineModel) (old new : Tally) : Type 0 where
+  pub rows : List (Cell × ℤ)
+  pub final : IsFinalRows e.store e.events rows
+  pub calls : IsUpTo 4 (11 + length l.label + 14 * length rows) old new
 
 -- what stands against an engine over these tables, before the disk is looked at
 abbrev pub IsRefusal : EngineModel → List (List ℕ) → NextError → Type 0

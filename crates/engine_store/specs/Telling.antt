@@ -4,6 +4,7 @@ use Rattle.teb_names.specs.Rows.{row_of}
 use Rattle.teb_history.specs.declared.Event.{Event}
 use Rattle.teb_rules.specs.Replay.{Values}
 use Rattle.teb_rules.specs.Setup.{Store}
+use Rattle.crash_disk.specs.Calls.{Tally, IsUpTo}
 use Rattle.crash_disk.specs.Disk.{LeavesOnly}
 use Rattle.commit_laws.specs.Records.{records_of}
 use Rattle.epoch_journal.specs.Layout.{Layout, front_end}
@@ -17,6 +18,13 @@ TellsCommits l X H least image = TellsOn l (row_of X.rows) (records_of X.setup H
 pub record LeavesOnlyUntilRenewed {D : Type 0} (seen : D → List ℕ) (faults : D → ℕ) (moment : D → ℕ) (left_since : D → ℕ → List ℕ → Type 0) (old new : D) (P : List ℕ → Type 0) : Type 0 where
   pub last : D
   pub leaves : LeavesOnly moment left_since old last P
+  pub same_bytes : seen new ≡ seen last
+  pub same_faults : faults new ≡ faults last
+
+-- k calls at most since old, until the disk was renewed, which wrote n bytes at most; new has the same bytes and faults
+pub record IsUpToUntilRenewed {D : Type 0} (seen : D → List ℕ) (faults : D → ℕ) (tally : D → Tally) (k n : ℕ) (old new : D) : Type 0 where
+  pub last : D
+  pub calls : IsUpTo k n (tally old) (tally last)
   pub same_bytes : seen new ≡ seen last
   pub same_faults : faults new ≡ faults last
 

@@ -1,6 +1,6 @@
 //! How the next epoch begins.
 
-ghost use Rattle.std.specs.Prelude.{◌≡◌, ◌++◌, ◌∷◌, [], true, false, IfOk, IfErr, OnErr, IsErrOf, MatchResult, List, ℕ};
+ghost use Rattle.std.specs.Prelude.{◌≡◌, ◌+◌, ◌*◌, ◌++◌, ◌∷◌, [], true, false, IfOk, IfErr, OnErr, IsErrOf, MatchResult, List, ℕ, length};
 ghost use Rattle.teb_io.specs.Faults.{Rose};
 ghost use Rattle.teb_names.specs.declared.Cell.{Cell as TheCell};
 ghost use Rattle.teb_names.specs.Rows.{row_of};
@@ -10,12 +10,13 @@ ghost use Rattle.store_setup.specs.Sound.{IsWhole};
 ghost use Rattle.engine_core.specs.EngineModel.{EngineModel, IsOfEngine};
 ghost use Rattle.tree_switch.specs.Courses.{IsCourse};
 ghost use Rattle.tree_switch.specs.Starts.{IsStarted};
+ghost use Rattle.crash_disk.specs.Calls.{IsUpTo};
 ghost use Rattle.crash_disk.specs.Disk.{LeavesOnly};
 ghost use Rattle.record_journal.specs.Journal.{after_records};
 ghost use Rattle.commit_laws.specs.Records.{records_of};
 ghost use Rattle.engine_store.specs.Lives.{Epoch, IsLife, epoch_of};
-ghost use Rattle.engine_store.specs.Next.{IsCause, IsRefusal, MayFollow};
-ghost use Rattle.engine_store.specs.Telling.{LeavesOnlyUntilRenewed, TellsCommits};
+ghost use Rattle.engine_store.specs.Next.{IsCause, IsRefusal, MayFollow, WritesFinalRows};
+ghost use Rattle.engine_store.specs.Telling.{IsUpToUntilRenewed, LeavesOnlyUntilRenewed, TellsCommits};
 ghost use Rattle.engine_store.specs.declared.error.NextError.TheVariants as errors;
 
 use crate::error::NextError;
@@ -67,6 +68,12 @@ impl<C: Chains, D: Renew> EngineStore<C, D> {
 
         // No call of the disk is refused memory.
         ensures memory { MatchResult result (λ o. D.refusals o.0.journal.disk ≡ D.refusals self.journal.disk) (λ refused. D.refusals refused.store.journal.disk ≡ D.refusals self.journal.disk) }
+
+        // At most four calls of the disk, which write the label, the rows, and the byte that makes their half current.
+        ensures calls { IfOk result (λ o. IsUpToUntilRenewed D.seen D.faults D.tally 4 (11 + length self.journal.layout.label + 14 * length o.0.engine.store.rows)
+            self.journal.disk o.0.journal.disk) }
+        ensures calls_back { IfErr result (λ refused. refused.why ≡ errors.DiskFault
+            → WritesFinalRows self.journal.layout self.engine (D.tally self.journal.disk) (D.tally refused.store.journal.disk)) }
 
         // Whatever epochs are past, the life goes on.
         ensures course { (past : List EngineModel) → IsCourse (record { past = past; present = self.engine })
@@ -165,6 +172,10 @@ fn begin_next<C: Chains, D: Disk>(
     ensures fault { IsErrOf result errors.DiskFault → (store.new.journal.stopped ≡ true) × Rose (D.faults store.old.journal.disk) (D.faults store.new.journal.disk) }
     ensures layout { store.new.journal.layout ≡ store.old.journal.layout }
     ensures memory { D.refusals store.new.journal.disk ≡ D.refusals store.old.journal.disk }
+    ensures calls { IfOk result (λ _. IsUpTo 4 (11 + length store.old.journal.layout.label + 14 * length store.new.engine.engine.store.rows)
+        (D.tally store.old.journal.disk) (D.tally store.new.journal.disk)) }
+    ensures calls_back { IsErrOf result errors.DiskFault
+        → WritesFinalRows store.old.journal.layout store.old.engine.engine (D.tally store.old.journal.disk) (D.tally store.new.journal.disk) }
     ensures any_moment { LeavesOnly D.moment D.left_since store.old.journal.disk store.new.journal.disk
         (TellsCommits store.old.journal.layout store.old.engine.engine.store store.old.engine.engine.events store.old.journal.acknowledged) }
     ensures images { (image : List ℕ) → D.may_leave store.new.journal.disk image

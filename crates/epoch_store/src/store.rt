@@ -7,6 +7,7 @@ ghost use Rattle.teb_names.specs.declared.Reply.TheVariants as replies;
 ghost use Rattle.teb_names.specs.Rows.{row_of};
 ghost use Rattle.teb_rules.specs.Answer.{answer};
 ghost use Rattle.teb_rules.specs.Replay.{Values};
+ghost use Rattle.crash_disk.specs.Calls.{IsUpTo};
 ghost use Rattle.crash_disk.specs.Disk.{LeavesOnly};
 ghost use Rattle.record_journal.specs.Format.{Record};
 ghost use Rattle.record_journal.specs.Journal.{after_records};
@@ -193,6 +194,9 @@ impl<E: Recorder, D: Disk> EpochStore<E, D> {
         ensures fault { IfErr result (λ refused. refused.why ≡ epochs.DiskFault
             → (self.new.journal.stopped ≡ true) × Rose (D.faults self.old.journal.disk) (D.faults self.new.journal.disk)) }
 
+        // At most four calls of the disk, which write the label, the rows, and the byte that makes their half current.
+        ensures calls { IsUpTo 4 (11 + length self.old.journal.layout.label + 14 * length (E.store next).rows) (D.tally self.old.journal.disk) (D.tally self.new.journal.disk) }
+
         // A crash at any moment of the call leaves the rows after all commits of the epoch that ends, which are those that the next one
         // begins with.
         ensures any_moment { LeavesOnly D.moment D.left_since self.old.journal.disk self.new.journal.disk
@@ -229,6 +233,7 @@ pub(crate) fn begin_with<E: Recorder, D: Disk>(
     ensures full { IsErrOf result epochs.Full → half_size journal.old.layout.capacity < 10 + length journal.old.layout.label + 14 * length (E.store next.now).rows }
     ensures unchanged { IfErr result (λ e. (e ≡ epochs.DiskFault → ⊥) → journal.new ≡ journal.old) }
     ensures fault { IsErrOf result epochs.DiskFault → (journal.new.stopped ≡ true) × Rose (D.faults journal.old.disk) (D.faults journal.new.disk) }
+    ensures calls { IsUpTo 4 (11 + length journal.old.layout.label + 14 * length (E.store next.now).rows) (D.tally journal.old.disk) (D.tally journal.new.disk) }
 {
     journal.checkpoint(alloc, next.rows())
 }

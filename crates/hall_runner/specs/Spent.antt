@@ -4,13 +4,17 @@ use Rattle.teb_names.specs.declared.Session.{Session}
 use Rattle.teb_rules.specs.Setup.{Store}
 use Rattle.teb_rules.specs.Run.{IsLegal}
 use Rattle.teb_rules.specs.Scripts.{IsWay}
-use Rattle.session_server.specs.Halls.{Ghosts, Pass}
+use Rattle.session_server.specs.Halls.{Ghosts, Hall, Pass}
 use Rattle.script_text.specs.declared.Line.{Line}
 use Rattle.script_walk.specs.ScriptStates.{requests_on}
 use Rattle.session_server.specs.declared.pass.TheConstants.{MOST_ASKS}
-use Rattle.session_server.specs.Passes.{mine, seen}
+use Rattle.session_server.specs.Passes.{base_of, mine, seen}
+use Rattle.session_tasks.specs.declared.error.RunError.TheVariants.{PassSpent}
+use Rattle.session_tasks.specs.Errors.{IsFirstError}
+use Rattle.session_tasks.specs.Tasks.{IsTask}
 
--- the pass has asked MOST_ASKS times. What it has seen is a legal run of the store, and its own entries are a way along the script of its session
+-- The pass has asked MOST_ASKS times. What it has seen is a legal run of the store, and its own entries are a way along the script of its session. In a
+-- hall over the store no session of a lower number met an error.
 pub record IsSpentOn {C : Type 0} {g : Ghosts C} (X : Store) (scripts : List (Session × List Line)) (p : Pass C g) : Type 0 where
   pub legal : IsLegal X (seen p)
   pub asks : p.asks ≡ MOST_ASKS
@@ -18,3 +22,6 @@ pub record IsSpentOn {C : Type 0} {g : Ghosts C} (X : Store) (scripts : List (Se
   pub lines : List Line
   pub script : slice_get scripts place ≡ Some (p.session, lines)
   pub way : IsWay (requests_on lines) (mine p)
+  pub hall : Hall C g
+  pub over : (base_of hall).store ≡ X
+  pub first : IsFirstError (IsTask hall scripts) (PassSpent p)

@@ -1,12 +1,15 @@
 //! Workers that serve the scripts of an input.
 
-ghost use Rattle.std.specs.Prelude.{◌≡◌, ◌≤◌, [], All, map, IfOk, IfErr};
+ghost use Rattle.std.specs.Prelude.{◌≡◌, ◌≢◌, ◌≤◌, [], All, map, IfOk, IfErr};
 ghost use Rattle.teb_history.specs.Phases.{numbers};
 ghost use Rattle.teb_rules.specs.Driver.{Ascending};
 ghost use Rattle.fair_driver.specs.Seats.{scripts_on};
 ghost use Rattle.session_server.specs.Passes.{IsNew, number_of};
 ghost use Rattle.session_tasks.specs.Scripted.{AreDistinct};
 ghost use Rattle.session_tasks.specs.Served.{IsServed, IsCause};
+ghost use Rattle.session_tasks.specs.Errors.{IsFirstError};
+ghost use Rattle.session_tasks.specs.Tasks.{IsTask};
+ghost use Rattle.session_tasks.specs.declared.error.RunError.TheVariants.{OutOfMemory};
 ghost use Rattle.input_runner.specs.Runs.{IsSerialized};
 ghost use Rattle.hall_runner.specs.Outcomes.{IsServedBy, IsServedOver, IsSerializedOver, AreSetUp, history_in};
 
@@ -131,6 +134,7 @@ fn serve_sessions<C: Chains + Send, R: Threads + Wait + Sync, G: Gate + Sync>(
     ensures sessions { IfOk result (λ v. map number_of v.items ≡ numbers SESSIONS) }
     ensures served { IfOk result (λ v. All (IsServed hall.now scripts.now) v.items) }
     ensures cause { IfErr result (IsCause hall.now scripts.now) }
+    ensures first { IfErr result (λ e. e ≢ OutOfMemory → IsFirstError (IsTask hall.now scripts.now) e) }
 {
     match runner {
         Runner::Threads => run_threads(rt, alloc, hall, passes, scripts, workers, gate),
@@ -155,6 +159,7 @@ fn serve_from_queue<C: Chains + Send, R: Threads + Wait + Sync, G: Gate + Sync>(
     ensures sessions { IfOk result (λ v. map number_of v.items ≡ numbers SESSIONS) }
     ensures served { IfOk result (λ v. All (IsServed hall.now scripts.now) v.items) }
     ensures cause { IfErr result (IsCause hall.now scripts.now) }
+    ensures first { IfErr result (λ e. e ≢ OutOfMemory → IsFirstError (IsTask hall.now scripts.now) e) }
 {
     Ok(run_pool(rt, alloc, hall, passes, scripts, workers, gate)?.passes)
 }

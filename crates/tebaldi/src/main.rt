@@ -23,8 +23,9 @@
 //! **What is proved** of `run_tebaldi`, for all words, sources and sinks. The words and the bytes of the input determine what is
 //! shown, exactly, up to the choice of one history by `threads` and `pool`; what is written is all of it, or a prefix with status
 //! 4; the history is serialized (clause `right`: `IsRight`, `Ends`). Status 3 and status 4 are left only if the source's or the
-//! sink's count of faults rose (`read_fault`, `write_fault`). With status 8 nothing is written (`out_of_memory`). Other words, and
-//! those of `load`, leave the input unread (`unread`).
+//! sink's count of faults rose (`read_fault`, `write_fault`); with another status than 3 the source's count is as it was
+//! (`no_read_fault`). With status 8 nothing is written (`out_of_memory`). Other words, and those of `load`, leave the input unread
+//! (`unread`).
 //!
 //! **Not claimed**: time; that a run by threads ends; that standard input and standard output keep the contracts of std.
 #![tactic(auto)]

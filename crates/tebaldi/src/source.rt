@@ -27,6 +27,7 @@ use teb_io::{Sink, Source};
 pub fn replay_source<S: Source, K: Sink>(alloc: Global, input: &mut S, out: &mut K) -> Ended
     ensures right { result.status ≢ 3 → result.status ≢ 8 → IsRight (Some Command.Replay) (S.left input.old) (S.left input.new) result (K.written out.old) (K.written out.new) }
     ensures read_fault { result.status ≡ 3 → Rose (S.faults input.old) (S.faults input.new) × IsSilent result (K.written out.old) (K.written out.new) }
+    ensures no_read_fault { result.status ≢ 3 → S.faults input.new ≡ S.faults input.old }
     ensures write_fault { result.status ≡ 4 → Rose (K.faults out.old) (K.faults out.new) }
     ensures out_of_memory { result.status ≡ 8 → IsSilent result (K.written out.old) (K.written out.new) }
 {
@@ -40,6 +41,7 @@ pub fn replay_source<S: Source, K: Sink>(alloc: Global, input: &mut S, out: &mut
 pub fn turn_source<S: Source, K: Sink>(alloc: Global, input: &mut S, out: &mut K) -> Ended
     ensures right { result.status ≢ 3 → result.status ≢ 8 → IsRight (Some Command.Turns) (S.left input.old) (S.left input.new) result (K.written out.old) (K.written out.new) }
     ensures read_fault { result.status ≡ 3 → Rose (S.faults input.old) (S.faults input.new) × IsSilent result (K.written out.old) (K.written out.new) }
+    ensures no_read_fault { result.status ≢ 3 → S.faults input.new ≡ S.faults input.old }
     ensures write_fault { result.status ≡ 4 → Rose (K.faults out.old) (K.faults out.new) }
     ensures out_of_memory { result.status ≡ 8 → IsSilent result (K.written out.old) (K.written out.new) }
 {
@@ -61,6 +63,7 @@ pub fn threads_source<R: Threads + Wait + Sync, S: Source, K: Sink, G: Gate + Sy
     requires { 1 ≤ workers }
     ensures right { result.status ≢ 3 → result.status ≢ 8 → IsRight (Some (Command.Threads workers)) (S.left input.old) (S.left input.new) result (K.written out.old) (K.written out.new) }
     ensures read_fault { result.status ≡ 3 → Rose (S.faults input.old) (S.faults input.new) × IsSilent result (K.written out.old) (K.written out.new) }
+    ensures no_read_fault { result.status ≢ 3 → S.faults input.new ≡ S.faults input.old }
     ensures write_fault { result.status ≡ 4 → Rose (K.faults out.old) (K.faults out.new) }
     ensures out_of_memory { result.status ≡ 8 → IsSilent result (K.written out.old) (K.written out.new) }
 {
@@ -82,6 +85,7 @@ pub fn pool_source<R: Threads + Wait + Sync, S: Source, K: Sink, G: Gate + Sync>
     requires { 1 ≤ workers }
     ensures right { result.status ≢ 3 → result.status ≢ 8 → IsRight (Some (Command.Pool workers)) (S.left input.old) (S.left input.new) result (K.written out.old) (K.written out.new) }
     ensures read_fault { result.status ≡ 3 → Rose (S.faults input.old) (S.faults input.new) × IsSilent result (K.written out.old) (K.written out.new) }
+    ensures no_read_fault { result.status ≢ 3 → S.faults input.new ≡ S.faults input.old }
     ensures write_fault { result.status ≡ 4 → Rose (K.faults out.old) (K.faults out.new) }
     ensures out_of_memory { result.status ≡ 8 → IsSilent result (K.written out.old) (K.written out.new) }
 {
@@ -100,6 +104,7 @@ pub fn crash_source<S: Source, K: Sink>(
 ) -> Ended
     ensures right { result.status ≢ 3 → result.status ≢ 8 → IsRight (Some (Command.Crash stop)) (S.left input.old) (S.left input.new) result (K.written out.old) (K.written out.new) }
     ensures read_fault { result.status ≡ 3 → Rose (S.faults input.old) (S.faults input.new) × IsSilent result (K.written out.old) (K.written out.new) }
+    ensures no_read_fault { result.status ≢ 3 → S.faults input.new ≡ S.faults input.old }
     ensures write_fault { result.status ≡ 4 → Rose (K.faults out.old) (K.faults out.new) }
     ensures out_of_memory { result.status ≡ 8 → IsSilent result (K.written out.old) (K.written out.new) }
 {
@@ -113,6 +118,7 @@ pub fn crash_source<S: Source, K: Sink>(
 pub fn audit_source<S: Source, K: Sink>(alloc: Global, input: &mut S, out: &mut K) -> Ended
     ensures right { result.status ≢ 3 → result.status ≢ 8 → IsRight (Some Command.Audit) (S.left input.old) (S.left input.new) result (K.written out.old) (K.written out.new) }
     ensures read_fault { result.status ≡ 3 → Rose (S.faults input.old) (S.faults input.new) × IsSilent result (K.written out.old) (K.written out.new) }
+    ensures no_read_fault { result.status ≢ 3 → S.faults input.new ≡ S.faults input.old }
     ensures write_fault { result.status ≡ 4 → Rose (K.faults out.old) (K.faults out.new) }
     ensures out_of_memory { result.status ≡ 8 → IsSilent result (K.written out.old) (K.written out.new) }
 {
@@ -126,6 +132,7 @@ pub fn audit_source<S: Source, K: Sink>(alloc: Global, input: &mut S, out: &mut 
 pub fn phase_source<S: Source, K: Sink>(alloc: Global, input: &mut S, out: &mut K) -> Ended
     ensures right { result.status ≢ 3 → result.status ≢ 8 → IsRight (Some Command.Phases) (S.left input.old) (S.left input.new) result (K.written out.old) (K.written out.new) }
     ensures read_fault { result.status ≡ 3 → Rose (S.faults input.old) (S.faults input.new) × IsSilent result (K.written out.old) (K.written out.new) }
+    ensures no_read_fault { result.status ≢ 3 → S.faults input.new ≡ S.faults input.old }
     ensures write_fault { result.status ≡ 4 → Rose (K.faults out.old) (K.faults out.new) }
     ensures out_of_memory { result.status ≡ 8 → IsSilent result (K.written out.old) (K.written out.new) }
 {

@@ -39,6 +39,7 @@ pub fn run_tebaldi<R: Threads + Wait + Sync, S: Source, K: Sink, G: Gate + Sync>
     // be.
     ensures right { result.status ≢ 3 → result.status ≢ 8 → IsRight (command_of (texts words.now)) (S.left input.old) (S.left input.new) result (K.written out.old) (K.written out.new) }
     ensures read_fault { result.status ≡ 3 → Rose (S.faults input.old) (S.faults input.new) × IsSilent result (K.written out.old) (K.written out.new) }
+    ensures no_read_fault { result.status ≢ 3 → S.faults input.new ≡ S.faults input.old }
     ensures write_fault { result.status ≡ 4 → Rose (K.faults out.old) (K.faults out.new) }
     ensures out_of_memory { result.status ≡ 8 → IsSilent result (K.written out.old) (K.written out.new) }
     ensures unread { reads (command_of (texts words.now)) ≡ false → input.new ≡ input.old }
