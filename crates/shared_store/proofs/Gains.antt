@@ -1,5 +1,5 @@
 -- What a call makes of a session.
-use Rattle.std.proofs.Common.{◌≡◌, List, [], ◌∷◌, ◌++◌, append_assoc, ◌∙◌, ap, subst}
+use Rattle.std.proofs.Common.{◌≡◌, ℕ, List, [], ◌∷◌, ◌++◌, append_assoc, sym, ◌∙◌, ap, subst}
 use Rattle.teb_names.specs.declared.Reply.{Reply as TheReply}
 use Rattle.teb_names.specs.declared.Request.{Request}
 use Rattle.teb_names.specs.declared.Session.{Session}
@@ -11,7 +11,9 @@ use Rattle.shared_store.specs.declared.answer.Answer.TheVariants as answer
 use Rattle.shared_store.specs.declared.reply.StoreReply.TheVariants.{Reply, Later, Ended}
 use Rattle.shared_store.specs.Stages.{Stage}
 use Rattle.shared_store.specs.Lives.{LeadsTo}
+use Rattle.shared_store.specs.declared.reply.StoreReply.{StoreReply}
 use Rattle.shared_store.specs.Gaining.{Sees, SeesCall, SeesMarks}
+use Rattle.shared_store.specs.Turning.{IsPutOff}
 
 -- marks, and then what is seen by an answer
 module _ (b : Stage) (s : Session) (u v w : View LifeEntry Stage) (m : SeesMarks s.0 u v) where
@@ -47,3 +49,11 @@ module _ (b : Stage) (s : Session) (q : Request) (v w : View LifeEntry Stage) (o
 
   pub sees_ending : o ≡ answer.Ending → SeesMarks s.0 v w
   sees_ending e = at answer.Ending e
+
+-- what holds if nothing was asked, since the epoch is to end
+module _ (P : Type 0) (o : Answer) (h : IsPutOff o → P) where
+  pub later_put_off : (a : StoreReply) (n : ℕ) → o ≡ answer.Reply a n → a ≡ Later → P
+  later_put_off a n is e = h (subst IsPutOff (sym (is ∙ ap (λ (x : StoreReply). answer.Reply x n) e)) tt)
+
+  pub ending_put_off : o ≡ answer.Ending → P
+  ending_put_off is = h (subst IsPutOff (sym is) tt)

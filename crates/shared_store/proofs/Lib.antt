@@ -10,6 +10,7 @@ pub mod Turning
 pub mod Gains
 pub mod Answered
 pub mod Dealing
+pub mod Returning
 pub mod Gathering
 pub mod Settling
 pub mod Numbers

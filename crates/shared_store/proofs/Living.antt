@@ -12,6 +12,7 @@ use Rattle.commit_laws.specs.Commits.{commit_count}
 use Rattle.shared_store.specs.declared.entry.LifeEntry.{LifeEntry}
 use Rattle.shared_store.specs.declared.entry.LifeEntry.TheVariants.{Asked, Taken, Turned, Stopped}
 use Rattle.shared_store.specs.declared.error.Fault.{Fault}
+use Rattle.shared_store.specs.Beginning.{HasRoomFor}
 use Rattle.shared_store.specs.Commits.{commits_in}
 use Rattle.shared_store.specs.Stages.{Stage, IsNextEpoch, commits_at, first_stage}
 use Rattle.shared_store.specs.Lives.{IsLegalLife, IsShortOf, LeadsTo, Runs, taken_of}
@@ -57,13 +58,15 @@ module _ (first : Stage) (x y : Standing) (past : ℕ) (stopped : Bool) (commits
   now = stage_of past stopped x
 
   -- with a request
-  pub life_asked : (by s : Session) (q : Request) (r : Reply) (short : Option ShortReply) (new : List LifeEntry) (count : ℕ) → stopped ≡ false → IsAnsweredBy x y s q r → IsShortOf r short
+  pub life_asked : (by s : Session) (q : Request) (r : Reply) (short : Option ShortReply) (new : List LifeEntry) (count : ℕ) → stopped ≡ false → HasRoomFor x.events q → IsAnsweredBy x y s q r
+      → IsShortOf r short
       → count ≡ commits + commits_in r → new ≡ es ++ Asked by s q short ∷ [] → IsLifeOf first (stage_of past stopped y) count new
-  life_asked by s q r short new count runs a h c is = record {
+  life_asked by s q r short new count runs room a h c is = record {
     leads = subst (λ (n : List LifeEntry). LeadsTo first n (stage_of past stopped y)) (sym is) (leads_on first now (stage_of past stopped y) es (Asked by s q short ∷ []) l.leads (
       stage_of past stopped y,
       record {
         runs = runs;
+        room = room;
         reply = subst (λ (p : Reply). IsShortOf p short) a.reply h;
         next = λ i. record { standing = record { store = a.store i; events = a.events i }; past = past; stopped = stopped };
       },
@@ -158,9 +161,10 @@ module _ (w v : List Event → Type 0) (goes_on : (H : List Event) → w H → v
 -- what a result of the server makes of a life
 module _ (first : Stage) (x y : Standing) (past : ℕ) (stopped : Bool) (commits : ℕ) (es : List LifeEntry) (l : IsLifeOf first (stage_of past stopped x) commits es) (s : Session) (q : Request)
     (o : Result Reply Fault) (a : IsServed x y s q o) where
-  pub served_life : (by : Session) (r : Reply) (short : Option ShortReply) (new : List LifeEntry) (count : ℕ) → stopped ≡ false → o ≡ Ok r → IsShortOf r short → count ≡ commits + commits_in r
+  pub served_life : (by : Session) (r : Reply) (short : Option ShortReply) (new : List LifeEntry) (count : ℕ) → stopped ≡ false → HasRoomFor x.events q → o ≡ Ok r → IsShortOf r short
+      → count ≡ commits + commits_in r
       → new ≡ es ++ Asked by s q short ∷ [] → IsLifeOf first (stage_of past stopped y) count new
-  served_life by r short new count runs e h c is = life_asked first x y past stopped commits es l by s q r short new count runs (subst (IsServed x y s q) e a) h c is
+  served_life by r short new count runs room e h c is = life_asked first x y past stopped commits es l by s q r short new count runs room (subst (IsServed x y s q) e a) h c is
 
   pub unserved_life : (f : Fault) → o ≡ Err f → IsLifeOf first (stage_of past stopped y) commits es
   unserved_life f e = life_same first x y past stopped commits es l (subst (IsServed x y s q) e a)

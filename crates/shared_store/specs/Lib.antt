@@ -1,4 +1,5 @@
 pub mod Served
+pub mod Beginning
 pub mod Stages
 pub mod Lives
 pub mod Commits

@@ -9,6 +9,7 @@ use Rattle.short_reply.specs.ShortReplies.{full_reply, HasValues}
 use Rattle.shared_store.specs.declared.entry.LifeEntry.{LifeEntry}
 use Rattle.shared_store.specs.declared.entry.LifeEntry.TheVariants.{Asked, Taken, Turned, Stopped}
 use Rattle.shared_store.specs.declared.entry.TheConstants.{LOG_SEAT}
+use Rattle.shared_store.specs.Beginning.{HasRoomFor}
 use Rattle.shared_store.specs.Stages.{Stage, reply_at, asked_at, stopped_at, IsNextEpoch}
 
 -- the session at whose turn the entry came; of marks, the log's seat
@@ -23,9 +24,11 @@ abbrev pub IsShortOf : Reply → Option ShortReply → Type 0
 IsShortOf reply (Some short) = full_reply short ≡ reply
 IsShortOf reply None = HasValues reply
 
--- a request of session s; the reply is that of the rules. Once the log has failed, nothing is asked
+-- a request of session s; the reply is that of the rules. Once the log has failed, nothing is asked, and a Begin is asked only if fewer than
+-- MOST_TXNS transactions have begun in the epoch
 pub record IsAsked (g : Stage) (s : Session) (q : Request) (short : Option ShortReply) (h : Stage) : Type 0 where
   pub runs : g.stopped ≡ false
+  pub room : HasRoomFor g.standing.events q
   pub reply : IsShortOf (reply_at g s q) short
   pub next : h ≡ asked_at g s q
 

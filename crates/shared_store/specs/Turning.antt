@@ -58,6 +58,22 @@ Adds first s q (answer.Reply (Ended r) n) old new = AddsMarks s.0 old new
 Adds first s q answer.Ending old new = AddsMarks s.0 old new
 Adds first s q (answer.Unasked f) old new = AddsMarks s.0 old new
 
+-- the reply is that of the rules
+abbrev pub IsOfRules : Answer → Type 0
+IsOfRules (answer.Reply (Reply r) n) = Unit {0}
+IsOfRules (answer.Reply Later n) = ⊥
+IsOfRules (answer.Reply (Ended r) n) = ⊥
+IsOfRules answer.Ending = ⊥
+IsOfRules (answer.Unasked f) = ⊥
+
+-- nothing was asked, since the epoch is to end
+abbrev pub IsPutOff : Answer → Type 0
+IsPutOff (answer.Reply (Reply r) n) = ⊥
+IsPutOff (answer.Reply Later n) = Unit {0}
+IsPutOff (answer.Reply (Ended r) n) = ⊥
+IsPutOff answer.Ending = Unit {0}
+IsPutOff (answer.Unasked f) = ⊥
+
 -- a reply comes with this count
 abbrev pub IsNumbered : ℕ → Answer → Type 0
 IsNumbered count (answer.Reply a n) = n ≡ count

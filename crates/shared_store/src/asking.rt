@@ -2,10 +2,13 @@
 
 ghost use Rattle.std.specs.Prelude.{◌≡◌, ◌<◌, ◌≤◌, [], ◌∷◌, true, Some, IfOk, IsTrue};
 ghost use Rattle.turn_lock.specs.Seats.{base_in, view_of, IsOf, IsOutside};
+ghost use Rattle.shared_store.specs.declared.reply.StoreReply.TheVariants as store_replies;
+ghost use Rattle.shared_store.specs.Beginning.{IsBegin};
 ghost use Rattle.shared_store.specs.Gaining.{Gains, IsCountedIn, SafeAt, Sees, TakesLogTurns, TakesTurns, is_commit_reply};
 ghost use Rattle.shared_store.specs.Keeping.{place_of};
 ghost use Rattle.shared_store.specs.Sharing.{base_of};
 ghost use Rattle.shared_store.specs.Totals.{total_in};
+ghost use Rattle.shared_store.specs.Turning.{IsPutOff};
 
 use crate::answer::Answer;
 use crate::error::{Failure, Fault};
@@ -46,6 +49,7 @@ pub(crate) fn ask_through<S: EpochServer, R: Wait>(
     ensures log_seat { IsOf store.now.log_turn log_seat.new × IsOutside log_seat.new }
     ensures log_turn { TakesLogTurns 2 (view_of log_seat.old) (view_of log_seat.new) }
     ensures gains { Gains (base_of store.now) session request result (view_of seat.old) (view_of seat.new) }
+    ensures later { IfOk result (λ a. a ≡ store_replies.Later → IsBegin request) }
     ensures safe { IfOk result (λ a. IsTrue (is_commit_reply a) → SafeAt (base_of store.now) (view_of seat.new).seen (view_of log_seat.new).seen) }
 {
     match ask_twice(rt, alloc, store, seat, log_seat, session, request) {
@@ -95,6 +99,7 @@ pub(crate) fn ask_twice<S: EpochServer, R: Wait>(
     ensures turn { TakesTurns 2 (view_of seat.old) (view_of seat.new) }
     ensures sees { Sees (base_of store.now) session request result (view_of seat.old) (view_of seat.new) }
     ensures counted { IsCountedIn (base_of store.now) result (view_of seat.new).seen }
+    ensures put_off { IsPutOff result → IsBegin request }
     ensures log_seat { IsOf store.now.log_turn log_seat.new × IsOutside log_seat.new }
     ensures log_turn { TakesLogTurns 1 (view_of log_seat.old) (view_of log_seat.new) }
 {
@@ -125,6 +130,7 @@ fn ask_once<S: EpochServer, R: Wait>(
     ensures turn { TakesTurns 1 (view_of seat.old) (view_of seat.new) }
     ensures sees { Sees (base_of store.now) session request result (view_of seat.old) (view_of seat.new) }
     ensures counted { IsCountedIn (base_of store.now) result (view_of seat.new).seen }
+    ensures put_off { IsPutOff result → IsBegin request }
 {
     let inside = store.door.lock(rt);
     let answer = take_turn(rt, alloc, &store.turn, seat, session, request);

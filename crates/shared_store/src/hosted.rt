@@ -5,13 +5,14 @@ ghost use Rattle.commit_laws.specs.Commits.{commit_count};
 ghost use Rattle.teb_names.specs.declared.TheConstants.{SESSIONS};
 ghost use Rattle.shared_store.specs.declared.entry.LifeEntry.TheVariants as entries;
 ghost use Rattle.shared_store.specs.declared.entry.TheConstants.{LOG_SEAT};
+ghost use Rattle.shared_store.specs.Beginning.{HasRoomFor, IsBegin};
 ghost use Rattle.shared_store.specs.Commits.{commits_in};
 ghost use Rattle.shared_store.specs.Ending.{AddsNoCalls, IsKeptAfter, LeadsToServer};
 ghost use Rattle.shared_store.specs.Holding.{IsBrought, IsKept, IsLifeOf, IsWaiting, stage_of};
 ghost use Rattle.shared_store.specs.Lives.{IsShortOf, owner_of, taken_of};
 ghost use Rattle.shared_store.specs.Served.{IsDrained};
 ghost use Rattle.shared_store.specs.Stages.{first_stage};
-ghost use Rattle.shared_store.specs.Turning.{Adds, AddsMarks, AddsResult, GrowsBy, IsNumbered};
+ghost use Rattle.shared_store.specs.Turning.{Adds, AddsMarks, AddsResult, GrowsBy, IsNumbered, IsOfRules, IsPutOff};
 
 use crate::answer::Answer;
 use crate::entry::LifeEntry;
@@ -93,11 +94,14 @@ impl<S: EpochServer> Hosted<S> {
         server
     }
 
-    /// Answers a request of a session at its turn. Once the log has failed, nothing is answered.
+    /// Answers a request of a session at its turn. Once the log has failed, nothing is answered. In an epoch that is to end, a Begin is put
+    /// off.
     pub(crate) fn ask(&mut self, alloc: Global, session: Session, request: Request) -> Answer
         ensures adds { Adds (first_stage (S.standing self.old.first.value)) session request result self.old.entries.items self.new.entries.items }
         ensures number { IsNumbered self.new.commits result }
         ensures first { self.new.first ≡ self.old.first }
+        ensures open { IsBegin request → IsOfRules result → S.ending self.old.server ≡ false }
+        ensures put_off { IsPutOff result → IsBegin request × (S.ending self.old.server ≡ true) }
     {
         if self.stopped {
             return Answer::Unasked(Fault::Stopped);
@@ -105,13 +109,12 @@ impl<S: EpochServer> Hosted<S> {
         if let Some(reply) = self.take_notice(session) {
             return Answer::Reply(StoreReply::Ended(reply), self.commits);
         }
-        match self.ends_epoch(alloc, session) {
-            Ok(true) => return Answer::Ending,
-            Ok(false) => (),
-            Err(fault) => return Answer::Unasked(fault),
-        }
-        if matches!(request, Request::Begin(_)) && self.server.is_ending() {
-            return Answer::Reply(StoreReply::Later, self.commits);
+        if self.is_late(request) {
+            return match self.drain(alloc, session) {
+                Ok(true) => Answer::Ending,
+                Ok(false) => Answer::Reply(StoreReply::Later, self.commits),
+                Err(fault) => Answer::Unasked(fault),
+            };
         }
         match self.put(alloc, session, session, request) {
             Ok(reply) => Answer::Reply(StoreReply::Reply(reply), self.commits),
@@ -119,15 +122,24 @@ impl<S: EpochServer> Hosted<S> {
         }
     }
 
-    /// True if the epoch is to end, and nothing keeps it from its end. If only sessions do that were not told of an abort, other than this
-    /// one, their transactions are ended for them.
-    fn ends_epoch(&mut self, alloc: Global, by: Session) -> Result<bool, Fault>
+    /// True if it is a Begin, and the epoch is to end.
+    fn is_late(&self, request: Request) -> bool
+        ensures late { result ≡ true → IsBegin request × (S.ending self.now.server ≡ true) }
+        ensures open { result ≡ false → IsBegin request → S.ending self.now.server ≡ false }
+        ensures room { result ≡ false → HasRoomFor (S.standing self.now.server).events request }
+    {
+        match request {
+            Request::Begin(_) => self.server.is_ending(),
+            _ => false,
+        }
+    }
+
+    /// True if nothing keeps the epoch from its end. If only sessions do that were not told of an abort, other than this one, their
+    /// transactions are ended for them.
+    fn drain(&mut self, alloc: Global, by: Session) -> Result<bool, Fault>
         ensures marks { AddsMarks by.0 self.old.entries.items self.new.entries.items }
         ensures first { self.new.first ≡ self.old.first }
     {
-        if self.stopped || !self.server.is_ending() {
-            return Ok(false);
-        }
         for _ in 0..=SESSIONS {
             match self.server.obstacle() {
                 None => return Ok(true),
@@ -173,6 +185,7 @@ impl<S: EpochServer> Hosted<S> {
         session: Session,
         request: Request,
     ) -> Result<Reply, Fault>
+        requires room { HasRoomFor (S.standing self.old.server).events request }
         ensures adds { AddsResult (first_stage (S.standing self.old.first.value)) by session request result self.old.entries.items self.new.entries.items }
         ensures first { self.new.first ≡ self.old.first }
     {
@@ -213,6 +226,7 @@ impl<S: EpochServer> Hosted<S> {
     /// True if the epoch is to end, and nothing keeps it from its end.
     pub(crate) fn can_end(&self) -> bool
         ensures drained { result ≡ true → IsDrained (S.standing self.now.server).events × (self.now.stopped ≡ false) }
+        ensures ending { result ≡ true → S.ending self.now.server ≡ true }
     {
         if self.stopped || !self.server.is_ending() {
             return false;
@@ -245,6 +259,7 @@ impl<S: EpochServer> Hosted<S> {
         mut log: S::Log,
         total: u64,
     ) -> (Hosted<S>, S::Log, u64, bool, Result<(), Fault>)
+        requires ending { S.ending self.server ≡ true }
         requires drained { IsDrained (S.standing self.server).events }
         requires runs { self.stopped ≡ false }
         requires running { S.failed log ≡ false }

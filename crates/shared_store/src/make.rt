@@ -27,7 +27,8 @@ impl<S: EpochServer> Store<S> {
     /// its epoch nothing has happened, as in one that was just opened.
     ///
     /// # Errors
-    /// The server and the log, if memory is out. The log is as it was.
+    /// The server and the log, if memory is out. The log is as it was, and the server stands where it stood, with no commit that waits. So
+    /// they may be tried again.
     pub fn new(
         alloc: Global,
         server: S,
@@ -40,6 +41,8 @@ impl<S: EpochServer> Store<S> {
         ensures base { IfOk result (λ r. base_of r.0 ≡ first_stage (S.standing server)) }
         ensures sessions { IfOk result (λ r. All (IsNew r.0) r.1.items) }
         ensures numbers { IfOk result (λ r. map number_of r.1.items ≡ numbers SESSIONS) }
+        ensures stands { IfErr result (λ e. S.standing e.0 ≡ S.standing server) }
+        ensures waits { IfErr result (λ e. ∥ S.waits e.0 [] ∥₁) }
         ensures back { IfErr result (λ e. e.1 ≡ log) }
     {
         let Ok(mut sessions) = Vec::with_capacity(alloc, usize::from(SESSIONS)) else {

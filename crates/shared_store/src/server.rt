@@ -1,9 +1,12 @@
 //! What a shared store asks of what it serves.
 
-ghost use Rattle.std.specs.Prelude.{◌≡◌, ℕ, List, [], Bool, false, true, None, OnOk, OnErr};
+ghost use Rattle.std.specs.Prelude.{◌≡◌, ◌<◌, ℕ, List, [], Bool, false, true, None, OnOk, OnErr, IsErrOf};
+ghost use Rattle.teb_names.specs.declared.TheConstants.{MOST_TXNS};
 ghost use Rattle.teb_history.specs.declared.Event.{Event};
+ghost use Rattle.teb_history.specs.Phases.{begun_count};
 ghost use Rattle.teb_rules.specs.Setup.{Store};
 ghost use Rattle.commit_laws.specs.Commits.{commit_count};
+ghost use Rattle.shared_store.specs.declared.error.Fault.TheVariants as faults;
 ghost use Rattle.shared_store.specs.Served.{IsBegun, IsDrained, IsServed, Standing};
 
 use crate::error::Fault;
@@ -43,16 +46,22 @@ pub trait EpochServer: Sized {
     // A call of the log has failed.
     ghost failed: { Self.Log → Bool };
 
+    // No further transaction is to begin in this epoch.
+    ghost ending: { Self → Bool };
+
     /// Answers a request. A commit waits.
     ///
     /// # Errors
-    /// Each leaves the server as it was.
+    /// Each leaves the server where it was. After `Full` the epoch is to end.
     fn serve(&mut self, alloc: Global, session: Session, request: Request) -> Result<Reply, Fault>
         ensures served { IsServed (standing self.old) (standing self.new) session request result }
-        ensures waits { (H : List Event) → waits self.old H → waits self.new H };
+        ensures waits { (H : List Event) → waits self.old H → waits self.new H }
+        ensures full { IsErrOf result faults.Full → ending self.new ≡ true };
 
-    /// True if no further transaction is to begin in this epoch.
-    fn is_ending(&self) -> bool;
+    /// True if no further transaction is to begin in this epoch, as once `MOST_TXNS` have begun.
+    fn is_ending(&self) -> bool
+        ensures ending { result ≡ ending self.now }
+        ensures room { result ≡ false → begun_count (standing self.now).events < MOST_TXNS };
 
     /// What keeps the epoch from its end: a transaction is unfinished, or a session holds one that was aborted and was not told of it.
     fn obstacle(&self) -> Option<Obstacle>

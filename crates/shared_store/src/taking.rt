@@ -3,8 +3,10 @@
 ghost use Rattle.std.specs.Prelude.{◌≡◌, ◌≢◌, ◌<◌, [], ◌∷◌, Some};
 ghost use Rattle.turn_lock.specs.Seats.{base_in, view_of, IsOf, IsOutside};
 ghost use Rattle.shared_store.specs.declared.entry.TheConstants.{LOG_SEAT};
+ghost use Rattle.shared_store.specs.Beginning.{IsBegin};
 ghost use Rattle.shared_store.specs.Hosting.{first_of};
 ghost use Rattle.shared_store.specs.Gaining.{IsCountedIn, LogTurn, Sees, SeesMarks, TakesBatch, TakesNone, TakesTurns};
+ghost use Rattle.shared_store.specs.Turning.{IsPutOff};
 
 use crate::answer::Answer;
 use crate::error::Fault;
@@ -32,6 +34,7 @@ pub(crate) fn take_turn<S: EpochServer, R: Wait>(
     ensures turn { TakesTurns 1 (view_of seat.old) (view_of seat.new) }
     ensures sees { Sees (base_in first_of turn.now) session request result (view_of seat.old) (view_of seat.new) }
     ensures counted { IsCountedIn (base_in first_of turn.now) result (view_of seat.new).seen }
+    ensures put_off { IsPutOff result → IsBegin request }
 {
     let mut hosted = turn.enter(rt, seat);
     let answer = hosted.ask(alloc, session, request);

@@ -1,4 +1,5 @@
 pub mod Trees
+pub mod Ending
 pub mod Standings
 pub mod Found
 pub mod Serial

@@ -1,11 +1,13 @@
 //! What a shared store serves.
 
 ghost use Rattle.std.specs.Prelude.{◌≡◌, IfOk, Ok};
+ghost use Rattle.teb_history.specs.Phases.{begun_count};
 ghost use Rattle.store_setup.specs.SetupView.{setup_view};
 ghost use Rattle.store_setup.specs.Sound.{IsWhole};
 ghost use Rattle.tree_toml.specs.SetupText.{setup_of_text};
 ghost use Rattle.engine_store.specs.Halves.{AreCommitsSince, KeepsCommits};
 ghost use Rattle.engine_store.specs.Label.{label_of};
+ghost use Rattle.store_server.specs.Ending.{is_to_end};
 ghost use Rattle.store_server.specs.Standings.{as_fault, fault_of_next, fault_of_write, standing_of};
 ghost use Rattle.store_server.specs.Trees.{IsTreeOf};
 
@@ -87,12 +89,17 @@ impl<D: Renew> EpochServer for StoreServer<D> {
 
     ghost failed = { λ log. log.stopped };
 
+    ghost ending = { λ s. is_to_end s.is_full s.queue.left s.reserve (begun_count s.queue.engine.events) };
+
     fn serve(&mut self, alloc: Global, session: Session, request: Request) -> Result<Reply, Fault> {
         match self.queue.ask(alloc, session, request) {
             Ok(reply) => Ok(reply),
             Err(error) => {
-                self.is_full = self.is_full || matches!(error, AskError::Full);
-                Err(fault_of(error))
+                let fault = fault_of(error);
+                if let Fault::Full = fault {
+                    self.is_full = true;
+                }
+                Err(fault)
             }
         }
     }

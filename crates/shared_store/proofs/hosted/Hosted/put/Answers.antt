@@ -10,7 +10,7 @@ invariant_of-self g c =
     let y = g.S.EpochServer.standing c.serve.new.self in
     record {
       life = served_life first x y old.past old.stopped old.commits old.entries.items old.life c.args.session c.args.request c.serve.result c.serve.ensures.served c.args.by c.in-Ok.reply
-          c.short_of.result c.push.new.self.items c.counted-self.result c.if-self.false c.in-Ok.is c.short_of.ensures c.counted-self.ensures c.push.ensures;
+          c.short_of.result c.push.new.self.items c.counted-self.result c.if-self.false c.requires.room c.in-Ok.is c.short_of.ensures c.counted-self.ensures c.push.ensures;
       waiting = served_waiting (g.S.EpochServer.waits old.server) (g.S.EpochServer.waits c.serve.new.self) c.serve.ensures.waits first x y old.past old.stopped old.entries.items old.waiting
           c.args.session c.args.request c.serve.result c.serve.ensures.served c.args.by c.in-Ok.reply c.short_of.result c.push.new.self.items c.in-Ok.is c.push.ensures;
     }

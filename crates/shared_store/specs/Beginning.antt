@@ -1,0 +1,16 @@
+-- When a transaction may begin.
+use Rattle.std.specs.Prelude.{ℕ, ◌<◌, List}
+use Rattle.teb_names.specs.declared.TheConstants.{MOST_TXNS}
+use Rattle.teb_names.specs.declared.Request.{Request}
+use Rattle.teb_names.specs.declared.Request.TheVariants.{Begin}
+use Rattle.teb_history.specs.declared.Event.{Event}
+use Rattle.teb_history.specs.Phases.{begun_count}
+
+-- it asks to begin a transaction
+abbrev pub IsBegin : Request → Type 0
+IsBegin (Begin spot) = Unit {0}
+IsBegin _ = ⊥
+
+-- fewer than MOST_TXNS transactions have begun, if it asks to begin one
+abbrev pub HasRoomFor : List Event → Request → Type 0
+HasRoomFor H q = IsBegin q → begun_count H < MOST_TXNS
