@@ -1,14 +1,18 @@
 #!/usr/bin/env python3
 """Tries the store that sessions share, by the example program embedded_shared, on real files.
 
-    tools/store_in_threads.py [--kills N] [--transfers N]    8 clients in threads make transfers, and the sums are compared; the program is killed again and
-                                                             again amid transfers; each call of its disk fails once, under 4 clients. The last line is
+    tools/store_in_threads.py [--kills N] [--transfers N]    8 clients in threads make transfers, and the sums are compared; they make as many again, and
+                                                             the printed run of each epoch is audited; the program is killed again and again amid
+                                                             transfers; each call of its disk fails once, under 4 clients. The last line is
                                                              `N passed, M failed`
 
 A client makes transfer number n of its session from an account of the session to the account n places further on. So the number of transfers of each session
 says what every account has. The program prints each transfer once it is committed. After a kill it must find, for each session, the last transfer that was
 printed, and at most one more, and the accounts that go with them. After a call that failed it makes no further one, and the file has each transfer that was
 printed, and of each session at most one more: the commits that were written together may be there or not.
+
+With the word `runs` the program prints the run of each epoch. `tebaldi audit` must accept each, and refuse one in which a value that was read is another.
+An epoch begins with the rows that the last one left, and the epochs together have as many commits as there were transfers.
 """
 import argparse
 import itertools
@@ -24,8 +28,10 @@ import time
 
 TOP = pathlib.Path(__file__).resolve().parent.parent
 PROGRAM = TOP / "crates/embedded_shared/out/embedded_shared"
+AUDITOR = TOP / "crates/tebaldi/out/tebaldi"
 ROW = re.compile(r"(session|account) (\d+) has (-?\d+)\n")
 TOLD = re.compile(r"session (\d+) transfer (\d+)\n")
+GOT = re.compile(r"(got (t\d+) .* )(\S+)")
 CLIENTS = 8
 FEW = 4
 ACCOUNTS = 500
@@ -138,6 +144,51 @@ def try_totals(trials, folder, transfers):
     trials.expect("the accounts", accounts == balances_of(made), accounts)
 
 
+def audit(text):
+    """Returns the status and the answer of the audit of a text."""
+    done = subprocess.run([AUDITOR, "audit"], input=text, capture_output=True, text=True, timeout=SECONDS, check=False)
+    return done.returncode, done.stdout
+
+
+def spoiled(text):
+    """Returns a printed run in which the first value that a committed transaction read is another, and the number of that line."""
+    lines = text.splitlines(True)
+    committed = {line.split()[1] for line in lines if line.startswith("done ")}
+    for number, line in enumerate(lines, 1):
+        match = GOT.match(line)
+        if match and match[2] in committed:
+            lines[number - 1] = f"{match[1]}{1 if match[3] == 'none' else int(match[3]) + 1}\n"
+            return "".join(lines), number
+    return text, 0
+
+
+def rows_of(text, word):
+    """Returns the rows of a printed run that begin with a word, `start` or `row`."""
+    return [line.split()[1:] for line in text.splitlines() if line.startswith(f"{word} ")]
+
+
+def try_runs(trials, folder, transfers):
+    """8 clients make so many transfers together, and the run of each epoch is audited."""
+    path, each = f"{folder}/runs", transfers // CLIENTS
+    status, lines, complaint = run(command_of(path, each, "runs"))
+    runs = [text[: text.index("\nend\n") + 5] for text in "".join(lines).split("epoch\n")[1:]]
+    trials.expect("the runs", status == 0 and len(runs) > 1, (status, len(runs), complaint))
+    left, commits = [], 0
+    for number, text in enumerate(runs, 1):
+        answer = audit(text)
+        trials.expect(f"epoch {number}: the audit", answer == (0, "audit yes\n"), answer)
+        trials.expect(f"epoch {number}: the rows that it begins with", rows_of(text, "start") == left)
+        left, commits = rows_of(text, "row"), commits + len(re.findall("^done ", text, re.MULTILINE))
+    trials.expect("the commits", commits == each * CLIENTS, commits)
+    made, accounts = rows_in(path)
+    rows = {("transfers", key): value for key, value in made.items()} | {("account", key): value for key, value in accounts.items()}
+    trials.expect("the rows in the end", {(table, int(key)): int(value) for table, key, value in left} == rows, left)
+    text, wrong = spoiled(runs[len(runs) // 2])
+    answer = audit(text)
+    trials.expect("a value that was read is another", answer == (11, f"audit no line {wrong} read\n"), (wrong, answer))
+    print(f"{commits} commits in {len(runs)} epochs are audited")
+
+
 def try_kills(trials, folder, kills):
     """Kills the program at random moments of its life, and looks each time what the file has; at the end at least one transfer of each session."""
     path, before, choice = f"{folder}/kills", {}, random.Random(11)
@@ -189,14 +240,16 @@ def main():
     given = words.parse_args()
     global PROGRAM
     PROGRAM = (given.program or PROGRAM).resolve()
-    if not PROGRAM.exists():
-        print(f"{PROGRAM} is not built: ./check builds it", file=sys.stderr)
-        return 2
+    for program in (PROGRAM, AUDITOR):
+        if not program.exists():
+            print(f"{program} is not built: ./check builds it", file=sys.stderr)
+            return 2
     trials = Trials()
     # (a kill loses nothing that a file has been told, so a file system in memory is as good, and faster)
     memory = "/dev/shm" if pathlib.Path("/dev/shm").is_dir() else None
     with tempfile.TemporaryDirectory(dir=memory) as folder:
         try_totals(trials, folder, given.transfers)
+        try_runs(trials, folder, given.transfers)
         try_kills(trials, folder, given.kills)
         try_faults(trials, folder)
     print(f"{trials.passed} passed, {trials.failed} failed")

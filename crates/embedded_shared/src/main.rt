@@ -3,23 +3,32 @@
 //! `client` has what every thread needs: it asks again while an older transaction is in the way or an epoch comes to its end, and starts
 //! over if the store aborts its transaction. The store goes on from epoch to epoch as the threads ask it. The program may be killed at any
 //! moment. Whatever transfer it has printed is in the file when it is started again.
+//!
+//! With the word `runs` it prints the run of each epoch of its life, which `recorded` keeps until the end. `tebaldi audit` accepts each of
+//! these texts: the run is serial in the printed order, from the rows that the epoch began with.
 #![tactic(auto)]
 
 mod bank;
 mod client;
+mod recorded;
 
 ghost use Rattle.std.specs.Prelude.{ℕ, ◌≡◌, ◌<◌, [], false, All, length, slice_index_or};
+ghost use Rattle.engine_store.specs.Halves.{AreCommitsSince, KeepsCommits};
 ghost use Rattle.shared_store.specs.Sharing.{IsSessionOf};
 
 use bank::{open_bank, report, transfers, transfers_of_epoch};
 use client::{Work, run_client};
+use crash_disk::Renew;
+use epoch_journal::EpochJournal;
 use file_disk::FileDisk;
+use recorded::Recorded;
 use shared_store::{EpochServer, Store, StoreSession};
 use std::alloc::Global;
 use std::env;
 use std::sync::Wait;
 use std::thread::{self, Threads};
 use std::time::Clock;
+use store_server::StoreServer;
 use teb_names::SESSIONS;
 
 /// A file has fewer bytes than this.
@@ -34,12 +43,14 @@ fn main(rt: HostRuntime) -> anyhow::Result<()> {
         words.next(),
         words.next(),
     ) else {
-        println!(rt; "usage: embedded_shared FILE BYTES CLIENTS TRANSFERS [loud]")?;
+        println!(rt; "usage: embedded_shared FILE BYTES CLIENTS TRANSFERS [loud | runs]")?;
         return Ok(());
     };
+    let word = words.next();
+    let has_runs = matches!(&word, Some(word) if word.as_str() == "runs");
     let work = Work {
         count: count.parse()?,
-        is_loud: words.next().is_some(),
+        is_loud: word.is_some() && !has_runs,
     };
     let bytes = bytes.parse::<u64>()?;
     if bytes == 0 || MOST_BYTES <= bytes {
@@ -47,11 +58,31 @@ fn main(rt: HostRuntime) -> anyhow::Result<()> {
         return Ok(());
     }
     let disk = FileDisk::open_with_capacity(&rt, alloc, &path, bytes)?;
+    run_bank(&rt, alloc, disk, clients.parse()?, work, has_runs)
+}
+
+/// Opens the bank that a disk has, and shares it among that many clients. It prints what there is before and afterwards, and the runs of
+/// the epochs if it is to.
+fn run_bank<R: Threads + Wait + Clock + Print + Sync>(
+    rt: &R,
+    alloc: Global,
+    disk: FileDisk,
+    clients: usize,
+    work: Work,
+    has_runs: bool,
+) -> anyhow::Result<()> {
     let (server, log) = open_bank(alloc, disk)?;
     let before = transfers(alloc, server.engine())?;
-    report(&rt, alloc, server.engine(), work.is_loud)?;
-    let shared = share(&rt, alloc, server, log, clients.parse()?, work);
-    let Some((server, _log)) = shared else {
+    report(rt, alloc, server.engine(), work.is_loud)?;
+    let shared = if has_runs {
+        share_recorded(rt, alloc, server, log, clients, work)?
+    } else {
+        match share(rt, alloc, server, log, clients, work) {
+            Some((server, _log)) => Some(server),
+            None => None,
+        }
+    };
+    let Some(server) = shared else {
         println!(rt; "out of memory")?;
         return Ok(());
     };
@@ -60,7 +91,29 @@ fn main(rt: HostRuntime) -> anyhow::Result<()> {
         "several epochs: {}",
         transfers_of_epoch(server.engine()) < made
     )?;
-    report(&rt, alloc, server.engine(), work.is_loud)
+    report(rt, alloc, server.engine(), work.is_loud)
+}
+
+/// Shares a server as `share` does, and then prints the run of each epoch. Returns the server; none if memory is out.
+fn share_recorded<D: Renew + Send + Drop, R: Threads + Wait + Clock + Print + Sync>(
+    rt: &R,
+    alloc: Global,
+    server: StoreServer<D>,
+    log: EpochJournal<D>,
+    clients: usize,
+    work: Work,
+) -> anyhow::Result<Option<StoreServer<D>>>
+    requires fresh { server.queue.engine.events ≡ [] }
+    requires waits { AreCommitsSince server.queue.engine.store [] server.queue.engine.events server.queue.waiting }
+    requires kept { KeepsCommits D.seen D.may_leave server.queue.engine.store [] 0 log }
+    requires running { log.stopped ≡ false }
+{
+    let recorded = Recorded::new(alloc, server);
+    let Some((recorded, _log)) = share(rt, alloc, recorded, log, clients, work) else {
+        return Ok(None);
+    };
+    recorded.print(rt, alloc)?;
+    Ok(Some(recorded.into_server()))
 }
 
 /// Shares a server and its log among that many clients until they are done, and returns both; none if memory is out.

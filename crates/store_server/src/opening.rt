@@ -2,7 +2,7 @@
 
 ghost use Rattle.std.specs.Prelude.{◌≡◌, [], false, IfOk, Ok};
 ghost use Rattle.store_setup.specs.SetupView.{setup_view};
-ghost use Rattle.store_setup.specs.Sound.{IsWhole};
+ghost use Rattle.store_setup.specs.Sound.{HasNames, IsNamed, IsWhole};
 ghost use Rattle.tree_toml.specs.SetupText.{setup_of_text};
 ghost use Rattle.engine_store.specs.Halves.{AreCommitsSince, KeepsCommits};
 ghost use Rattle.engine_store.specs.Label.{label_of};
@@ -61,6 +61,8 @@ fn open_under<D: Renew>(
 ) -> Result<(StoreServer<D>, EpochJournal<D>), NotServed<D>>
     requires read { setup_of_text tree.items ≡ Ok (setup_view setup) }
     requires whole { IsWhole (setup_view setup) }
+    requires nodes { IsNamed (setup_view setup) }
+    requires names { HasNames (setup_view setup) }
     ensures found { IfOk result (λ o. IsFound D.seen D.may_leave (D.capacity disk) tree.items disk o.0.queue.engine) }
     ensures events { IfOk result (λ o. o.0.queue.engine.events ≡ []) }
     ensures waits { IfOk result (λ o. AreCommitsSince o.0.queue.engine.store [] o.0.queue.engine.events o.0.queue.waiting) }

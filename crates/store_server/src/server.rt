@@ -1,15 +1,16 @@
 //! What a shared store serves.
 
 ghost use Rattle.std.specs.Prelude.{◌≡◌, IfOk, Ok};
+ghost use Rattle.std.proofs.Props.{props};
 ghost use Rattle.teb_history.specs.Phases.{begun_count};
 ghost use Rattle.store_setup.specs.SetupView.{setup_view};
-ghost use Rattle.store_setup.specs.Sound.{IsWhole};
+ghost use Rattle.store_setup.specs.Sound.{HasNames, IsNamed, IsWhole};
 ghost use Rattle.tree_toml.specs.SetupText.{setup_of_text};
 ghost use Rattle.engine_store.specs.Halves.{AreCommitsSince, KeepsCommits};
 ghost use Rattle.engine_store.specs.Label.{label_of};
 ghost use Rattle.store_server.specs.Ending.{is_to_end};
 ghost use Rattle.store_server.specs.Standings.{as_fault, fault_of_next, fault_of_write, standing_of};
-ghost use Rattle.store_server.specs.Trees.{IsTreeOf};
+ghost use Rattle.store_server.specs.Trees.{IsTreeOf, IsWellNamed};
 
 use chain_pool::PooledChains;
 use crash_disk::Renew;
@@ -39,12 +40,14 @@ pub struct StoreServer<D: Renew> {
     is_full: bool,
     disk: PhantomData<D>,
     ghost under: { IsTreeOf tree.items queue.engine.store },
+    ghost named: { IsWellNamed queue.engine.store queue.engine.names } by { Prim.hlevel props },
 }
 
 impl<D: Renew> StoreServer<D> {
     /// Returns the half that answers, with its tree text.
     pub(crate) fn new(queue: EngineQueue<PooledChains>, tree: Vec<u8>) -> StoreServer<D>
         requires tree { IsTreeOf tree.items queue.engine.store }
+        requires named { IsWellNamed queue.engine.store queue.engine.names }
         ensures { result.queue ≡ queue }
     {
         StoreServer {
@@ -58,7 +61,8 @@ impl<D: Renew> StoreServer<D> {
 
     /// Returns the engine of the present epoch.
     pub fn engine(&self) -> &Engine<PooledChains>
-        ensures { result.now ≡ self.now.queue.engine }
+        ensures engine { result.now ≡ self.now.queue.engine }
+        ensures named { IsWellNamed self.now.queue.engine.store self.now.queue.engine.names }
     {
         self.queue.engine()
     }
@@ -188,6 +192,8 @@ fn obstacle_in(history: &History) -> Obstacle {
 fn setup_of(alloc: Global, tree: &[u8]) -> Result<Setup, AllocError>
     ensures read { IfOk result (λ s. setup_of_text tree.now ≡ Ok (setup_view s)) }
     ensures whole { IfOk result (λ s. IsWhole (setup_view s)) }
+    ensures nodes { IfOk result (λ s. IsNamed (setup_view s)) }
+    ensures names { IfOk result (λ s. HasNames (setup_view s)) }
 {
     match read_tree(alloc, tree) {
         Ok(setup) => Ok(setup),

@@ -8,7 +8,7 @@ use Rattle.engine_store.specs.Halves.{AreCommitsSince, KeepsCommits}
 use Rattle.engine_store.specs.Next.{MayFollow}
 use Rattle.shared_store.specs.Served.{IsBegun}
 use Rattle.store_server.specs.Standings.{standing_of}
-use Rattle.store_server.specs.Trees.{IsTreeOf}
+use Rattle.store_server.specs.Trees.{IsTreeOf, IsWellNamed}
 use Rattle.store_server.proofs.Going.{begins_halves, none_waits, of_match, of_ok, stays_halves}
 use Rattle.store_server.proofs.server.StoreServerEpochServer.next_epoch.Goals as goal
 
@@ -18,7 +18,11 @@ next_epoch-queue-requires-clause-none g c = none_waits c.args.self.queue.engine.
 pub invariant_of-server : goal.invariant_of-server
 invariant_of-server g c =
     let o = c.next_epoch-queue in
-    record { under = subst (λ (q : Queue EngineModel). IsTreeOf c.args.self.tree.items q.engine.store) (sym (get_err o.result.2 c.in-Err.why c.in-Err.is o.ensures.back)) c.args.self.under }
+    let back = sym (get_err o.result.2 c.in-Err.why c.in-Err.is o.ensures.back) in
+    record {
+      under = subst (λ (q : Queue EngineModel). IsTreeOf c.args.self.tree.items q.engine.store) back c.args.self.under;
+      named = subst (λ (q : Queue EngineModel). IsWellNamed q.engine.store q.engine.names) back c.args.self.named;
+    }
 
 pub returns-in-Ok-begun-clause-begun : goal.returns-in-Ok-begun-clause-begun
 returns-in-Ok-begun-clause-begun g c =
