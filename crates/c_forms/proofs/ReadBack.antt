@@ -1,18 +1,15 @@
 -- What the forms of replies and events are read back as.
-use Rattle.std.proofs.Common.{◌≡◌, ◌==◌, ℕ, ℤ, Bool, true, false, if◌then◌else◌, Option, Some, None, refl, sym, ap, ◌∙◌, unwrap_or, is_some, pos}
-use Rattle.teb_names.specs.declared.Cell.{Cell}
+use Rattle.std.proofs.Common.{◌≡◌, ◌==◌, ℤ, if◌then◌else◌, Option, Some, None, refl, sym, ap, ◌∙◌}
 use Rattle.teb_names.specs.declared.Cause.{Cause}
 use Rattle.teb_names.specs.declared.Cause.TheVariants as cause
 use Rattle.teb_names.specs.declared.Refusal.{Refusal}
 use Rattle.teb_names.specs.declared.Refusal.TheVariants as refusal
-use Rattle.teb_names.specs.declared.Reply.{Reply}
 use Rattle.teb_names.specs.declared.Reply.TheVariants as reply
 use Rattle.teb_history.specs.declared.Event.{Event}
 use Rattle.teb_history.specs.declared.Event.TheVariants as event
 use Rattle.c_forms.specs.declared.events.EventForm.{EventForm}
-use Rattle.c_forms.specs.declared.replies.ReplyForm.{ReplyForm}
 use Rattle.c_forms.specs.Causes.{cause_form, cause_in}
-use Rattle.c_forms.specs.Replies.{reply_form, reply_in, refusal_number, refusal_in}
+use Rattle.c_forms.specs.Replies.{reply_in, refusal_number, refusal_in}
 use Rattle.c_forms.specs.Events.{event_form}
 use Rattle.c_forms.specs.Laws.{RepliesAreReadBack, RepliesDiffer, EventsDiffer}
 

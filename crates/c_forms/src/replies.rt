@@ -20,6 +20,20 @@ pub struct ReplyForm {
     pub values: ValueList,
 }
 
+impl ReplyForm {
+    /// Writes zeros into all fields but `kind`, which `put_short_form` writes.
+    #[inline(always)]
+    pub fn clear(&mut self)
+        ensures { self.new ≡ blank self.old.kind }
+    {
+        self.refusal = 0;
+        self.node = 0;
+        self.txn = 0;
+        self.cause = CauseForm::none();
+        self.values.clear();
+    }
+}
+
 /// Returns the form of a reply.
 pub fn reply_form(reply: &Reply) -> ReplyForm
     ensures { result ≡ form reply.now }

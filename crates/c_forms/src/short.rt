@@ -2,23 +2,19 @@
 
 ghost use Rattle.std.specs.Prelude.{◌≡◌};
 ghost use Rattle.short_reply.specs.ShortReplies.{full_reply};
-ghost use Rattle.c_forms.specs.Replies.{reply_form};
+ghost use Rattle.c_forms.specs.Replies.{blank, reply_form};
 
-use crate::causes::{CauseForm, cause_form};
+use crate::causes::cause_form;
 use crate::replies::{ReplyForm, refusal_number};
 use short_reply::ShortReply;
 
-/// Writes the form of a reply without the values of a scan. It is written in place, since a form takes 184 bytes, of which most are
-/// zeros already.
+/// Writes the form of a reply without the values of a scan over a form that is cleared, so that only the fields of the reply are
+/// written: a form takes 184 bytes.
 #[inline(always)]
 pub fn put_short_form(form: &mut ReplyForm, reply: &ShortReply)
+    requires { form.old ≡ blank form.old.kind }
     ensures { form.new ≡ reply_form (full_reply reply.now) }
 {
-    form.refusal = 0;
-    form.node = 0;
-    form.txn = 0;
-    form.cause = CauseForm::none();
-    form.values.clear();
     match reply {
         ShortReply::Begun(txn) => {
             form.kind = 1;
@@ -26,7 +22,7 @@ pub fn put_short_form(form: &mut ReplyForm, reply: &ShortReply)
         }
         ShortReply::Value(value) => {
             form.kind = 2;
-            form.values.push(*value);
+            form.values.put_first(*value);
         }
         ShortReply::Done => form.kind = 4,
         ShortReply::Prepared => form.kind = 5,

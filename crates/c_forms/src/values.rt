@@ -51,9 +51,22 @@ impl ValueList {
     pub fn clear(&mut self)
         ensures { self.new ≡ [] }
     {
-        if self.len > 0 {
-            *self = ValueList::new();
+        if self.len == 1 {
+            self.values[0] = 0;
+            self.present[0] = false;
+            self.len = 0;
+        } else if self.len > 0 {
+            self.clear_all();
         }
+    }
+
+    /// Drops all values: out of line, since only a scan has more than one.
+    #[cold]
+    #[inline(never)]
+    fn clear_all(&mut self)
+        ensures { self.new ≡ [] }
+    {
+        *self = ValueList::new();
     }
 
     /// Returns one value.
@@ -113,6 +126,17 @@ impl ValueList {
             list.push(self.at(i));
         }
         list
+    }
+
+    /// Puts one value in the place of none.
+    #[inline(always)]
+    pub fn put_first(&mut self, v: Option<i64>)
+        requires { self.old ≡ [] }
+        ensures { self.new ≡ v ∷ [] }
+    {
+        self.present[0] = v.is_some();
+        self.values[0] = v.unwrap_or(0);
+        self.len = 1;
     }
 
     /// Appends a value.

@@ -150,7 +150,10 @@ fn ask(
     engine.ready()?;
     match request {
         Request::Scan { .. } => ask_scan(engine, session, *request, reply),
-        _ => put_short_form(reply, &engine.ask_short(session, request)),
+        _ => {
+            reply.clear();
+            put_short_form(reply, &engine.ask_short(session, request));
+        }
     }
     Ok(())
 }

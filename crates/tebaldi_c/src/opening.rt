@@ -58,13 +58,14 @@ pub extern "C" fn tebaldi_close(alloc: Global, store: &mut StoreHandle)
     let _shelf = store.take(alloc);
 }
 
-/// Returns the store of a tree text.
+/// Returns the store of a tree text, with room for its first answers.
 fn shelf_of(alloc: Global, tree: &[u8]) -> Result<Box<Shelf>, TreeText>
     ensures ok { IfOk result (λ b. IsNewOf (setup_of_text tree.now) b.value) }
     ensures err { IfErr result (λ why. why ≢ faults.OutOfMemory → setup_of_text tree.now ≡ Err why) }
 {
     let setup = read_tree(alloc, tree)?;
-    let engine = Engine::new(alloc, setup, PooledChains::new(alloc))?;
+    let mut engine = Engine::new(alloc, setup, PooledChains::new(alloc))?;
+    engine.ready()?;
     let shelf = Box::new(
         alloc,
         Shelf {
