@@ -1,18 +1,19 @@
 #!/usr/bin/env python3
 """Measures commits a second of clients in threads on one file: the example embedded_shared, SQLite and RocksDB, each on the same transfers.
 
-    tools/bench_threads.py [--seconds N] [--folder FOLDER]
+    tools/bench_threads.py [--seconds N] [--rounds N] [--folder FOLDER]
 
 Each client has a thread, and makes transfers between accounts: it counts the transfer, and adds to two accounts, in a transaction that is on the disk before it
 is answered. SQLite has a write-ahead log and synchronous=FULL, RocksDB pessimistic transactions and a synced write (bench_threads.cpp). For each number of
-clients there are as many transfers as take some N seconds. The calls of fsync and fdatasync are counted by strace in a second, shorter run. It needs g++, strace and the
-packages libsqlite3-dev and librocksdb-dev; what is missing is left out.
+clients there are as many transfers as take some N seconds. The stores take turns, round after round, since the speed of a disk changes; of the rounds the median is told. The calls of fsync and
+fdatasync are counted by strace in another run. It needs g++, strace and the packages libsqlite3-dev and librocksdb-dev; what is missing is left out.
 """
 import argparse
 import os
 import pathlib
 import re
 import shutil
+import statistics
 import subprocess
 import sys
 import tempfile
@@ -25,6 +26,7 @@ BYTES = 67_108_864
 CLIENTS = (1, 2, 4, 8, 32)
 # (a first run of so many transfers tells how many a longer one makes in its time)
 FIRST = 320
+TRACED = 3200
 
 
 def stores(folder):
@@ -70,13 +72,17 @@ def syncs_of(command, path, clients, count):
     return sum(int(calls) for calls in re.findall(r"^ *[\d.]+ +[\d.]+ +\d+ +(\d+) .*sync$", traced.stderr, re.MULTILINE))
 
 
-def measured(command, path, clients, seconds):
-    """Returns the commits a second, and the syncs of a commit."""
-    first = -(-FIRST // clients)
-    count = max(1, round(first * seconds / seconds_of(command, path, clients, first)))
-    rate = clients * count / seconds_of(command, path, clients, count)
-    syncs = syncs_of(command, path, clients, first)
-    return rate, None if syncs is None else syncs / (clients * first)
+def measured(found, folder, clients, seconds, rounds):
+    """Yields, for each store, its name, the median of its commits a second, and the syncs of a commit."""
+    first, rates = -(-FIRST // clients), {name: [] for name in found}
+    counts = {name: max(1, round(first * seconds / seconds_of(command, f"{folder}/{name}", clients, first))) for name, command in found.items()}
+    for _ in range(rounds):
+        for name, command in found.items():
+            rates[name].append(clients * counts[name] / seconds_of(command, f"{folder}/{name}", clients, counts[name]))
+    traced = -(-TRACED // clients)
+    for name, command in found.items():
+        syncs = syncs_of(command, f"{folder}/{name}", clients, traced)
+        yield name, statistics.median(rates[name]), None if syncs is None else syncs / (clients * traced)
 
 
 def bare_syncs(path, seconds):
@@ -92,14 +98,15 @@ def bare_syncs(path, seconds):
 
 def main():
     words = argparse.ArgumentParser(description=__doc__, formatter_class=argparse.RawDescriptionHelpFormatter)
-    words.add_argument("--seconds", type=float, default=5, help="about how long each run takes")
+    words.add_argument("--seconds", type=float, default=1, help="about how long each run takes")
+    words.add_argument("--rounds", type=int, default=5, help="how many runs each store makes for each number of clients")
     words.add_argument("--folder", default="/var/tmp", help="where the files are, on a disk")
     given = words.parse_args()
     with tempfile.TemporaryDirectory(dir=given.folder) as folder:
         print(f"bare calls of fdatasync a second: {bare_syncs(f'{folder}/bare', given.seconds):.0f}")
-        for name, command in stores(folder).items():
-            for clients in CLIENTS:
-                rate, syncs = measured(command, f"{folder}/{name}", clients, given.seconds)
+        found = stores(folder)
+        for clients in CLIENTS:
+            for name, rate, syncs in measured(found, folder, clients, given.seconds, given.rounds):
                 print(f"{name}, {clients} clients: {rate:.0f} commits a second, {'-' if syncs is None else f'{syncs:.2f}'} syncs a commit", flush=True)
     return 0
 

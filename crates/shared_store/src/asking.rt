@@ -14,6 +14,7 @@ use crate::answer::Answer;
 use crate::error::{Failure, Fault};
 use crate::hosted::Hosted;
 use crate::keeper::Keeper;
+use crate::log_door::Pass;
 use crate::reply::StoreReply;
 use crate::server::EpochServer;
 use crate::store::Store;
@@ -153,11 +154,12 @@ fn end_epoch<S: EpochServer, R: Wait>(
     ensures seat { IsOf store.now.log_turn log_seat.new × IsOutside log_seat.new }
     ensures turn { TakesLogTurns 1 (view_of log_seat.old) (view_of log_seat.new) }
 {
-    let inside = store.log_door.lock(rt);
+    let pass = store.log_door.pass(rt, session, u64::MAX);
     let keeper = store.log_turn.enter(rt, log_seat);
     let (keeper, ended) = keeper.end_epoch(rt, alloc, &store.turn, session);
+    let (kept, failed) = (keeper.total, keeper.failed);
     store.log_turn.leave(log_seat, keeper);
-    drop(inside);
+    store.log_door.leave(rt, pass, kept, failed);
     ended
 }
 
@@ -179,11 +181,14 @@ pub(crate) fn settle<S: EpochServer, R: Wait>(
     ensures turn { TakesLogTurns 1 (view_of log_seat.old) (view_of log_seat.new) }
     ensures safe { result ≡ true → number ≤ total_in (view_of log_seat.new).seen }
 {
-    let inside = store.log_door.lock(rt);
+    let pass = store.log_door.pass(rt, session, number);
+    if matches!(pass, Pass::Write(_)) {
+        store.log_door.gather(rt);
+    }
     let keeper = store.log_turn.enter(rt, log_seat);
     let keeper = keeper.write_out(rt, alloc, &store.turn, session, number);
-    let is_safe = number <= keeper.total;
+    let (kept, failed) = (keeper.total, keeper.failed);
     store.log_turn.leave(log_seat, keeper);
-    drop(inside);
-    is_safe
+    store.log_door.leave(rt, pass, kept, failed);
+    number <= kept
 }

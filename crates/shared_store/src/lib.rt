@@ -8,7 +8,7 @@
 //!
 //! ```text
 //!      32 sessions                   the front turn                      the log turn
-//!                                    (door: a Mutex)                     (door: a Mutex)
+//!                                    (door: a Mutex)                   (door: a LogDoor)
 //!   ask ──────────────────────► ┌────────────────────────┐
 //!   ◄── the reply ───────────── │ server, life            │
 //!                               │ counts commits          │
@@ -21,8 +21,9 @@
 //! ```
 //!
 //! 1. A session enters the front turn and is answered. If it has committed, it has the number of its commit in the life.
-//! 2. It waits at the log's door. Inside, if the log keeps that many commits already, it leaves: another session has written them.
-//! 3. Else it takes all commits that wait, with the log's own seat at the front turn, and writes them, while others go on asking.
+//! 2. It comes to the log's door, and sleeps while another session writes. If the log keeps that many commits, it looks, and leaves.
+//! 3. Else it lets others come too, takes all commits that wait, with the log's own seat at the front turn, and writes them, while others go
+//!    on asking. Those whose commits it has written wake up and leave before the next write begins.
 //! 4. If the log fails, the front is told, each session whose commit it does not keep is answered [`StoreError::Unsure`], and nothing is asked
 //!    from then on.
 //!
@@ -54,6 +55,7 @@ mod first;
 mod hosted;
 mod keeper;
 mod kept;
+mod log_door;
 mod make;
 mod origin;
 mod reply;

@@ -14,6 +14,7 @@ ghost use Rattle.shared_store.specs.Sharing.{base_of, IsNewIn, IsNew, number_of}
 use crate::entry::LOG_SEAT;
 use crate::hosted::Hosted;
 use crate::keeper::{Keeper, LOG_TURNS};
+use crate::log_door::LogDoor;
 use crate::server::EpochServer;
 use crate::session::{MOST_TURNS, StoreSession};
 use crate::store::Store;
@@ -62,7 +63,7 @@ impl<S: EpochServer> Store<S> {
                             turn,
                             log_turn,
                             door: Mutex::new(()),
-                            log_door: Mutex::new(()),
+                            log_door: LogDoor::new(),
                         };
                         Ok((store, sessions))
                     }

@@ -9,6 +9,7 @@ ghost use Rattle.shared_store.specs.Keeping.{place_of};
 
 use crate::hosted::Hosted;
 use crate::keeper::Keeper;
+use crate::log_door::LogDoor;
 use crate::server::EpochServer;
 use std::sync::Mutex;
 use turn_lock::Turn;
@@ -22,7 +23,7 @@ pub struct Store<S: EpochServer> {
     pub(crate) turn: Turn<Hosted<S>>,
     pub(crate) log_turn: Turn<Keeper<S>>,
     pub(crate) door: Mutex<()>,
-    pub(crate) log_door: Mutex<()>,
+    pub(crate) log_door: LogDoor,
     ghost sized: { (owner_count turn ≡ LOG_SEAT) × (owner_count log_turn ≡ SESSIONS) },
     ghost site: { base_in place_of log_turn ≡ record { table = turn.table.shared.table_id; first = Some (base_in first_of turn) } },
 }

@@ -17,19 +17,8 @@ use crate::server::EpochServer;
 use crate::taking::{stop_front, take_batch};
 use std::alloc::Global;
 use std::sync::Wait;
-use std::thread;
 use teb_names::Session;
 use turn_lock::{SeatOf, Turn};
-
-/// How often the session that writes lets others run first, so that their commits go with it.
-const GATHER_YIELDS: u32 = 2;
-
-/// Lets other threads run.
-fn gather() {
-    for _ in 0..GATHER_YIELDS {
-        thread::yield_now();
-    }
-}
 
 impl<S: EpochServer> Keeper<S> {
     /// Sees to it that the log keeps the first `number` commits of the life: unless it does, it takes all commits that wait at the front, and
@@ -66,7 +55,6 @@ impl<S: EpochServer> Keeper<S> {
                 entries,
             };
         }
-        gather();
         let (batch, commits) = take_batch(rt, alloc, turn, &mut seat);
         if let Err(_fault) = S::write(&mut log, alloc, batch) {
             stop_front(rt, turn, &mut seat);

@@ -1,4 +1,4 @@
-use Rattle.std.proofs.Common.{rules, ◌≡◌, ◌++◌, length, ap, subst, sym, ◌∙◌}
+use Rattle.std.proofs.Common.{rules, ◌≡◌, ◌<◌, ◌++◌, length, ap, subst, sym, ◌∙◌}
 use Rattle.std.specs.Option.{option_to_list}
 use Rattle.turn_lock.specs.Calls.{AreOwned}
 use Rattle.turn_lock.specs.Counts.{HasAll}
@@ -9,8 +9,11 @@ use Rattle.shared_store.specs.Hosting.{first_of}
 use Rattle.shared_store.specs.Lives.{owner_of}
 use Rattle.shared_store.specs.Sharing.{base_of}
 use Rattle.shared_store.specs.Stages.{Stage}
-use Rattle.shared_store.proofs.Gathering.{all_in, all_of, all_within, begins, first_ends, front_ghosts, front_seat, goes_on, kept_at_end, kept_to_end, log_ghosts, log_seat, next_of, owned_all}
+use Rattle.shared_store.proofs.Gathering.{all_in, all_of, all_within, begins, first_ends, front_ghosts, front_seat, goes_on, kept_at_end, kept_to_end, log_ghosts, log_seat, next_of, owned_all, some_left}
 use Rattle.shared_store.proofs.store.Store.close.Goals as goal
+
+pub unwrap-requires : goal.unwrap-requires
+unwrap-requires g c = let some_ : 0 < length c.args.sessions.items = some_left c.args.sessions.items c.requires.all in search rules
 
 pub loop-session-init : goal.loop-session-init
 loop-session-init g c =

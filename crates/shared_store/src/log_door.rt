@@ -1,0 +1,161 @@
+//! The door of the log, at which sessions sleep until their commits are written.
+
+use std::sync::{Condvar, Mutex, MutexGuard, Wait};
+use std::{hint, thread};
+use teb_names::{SESSIONS, Session};
+
+/// A place for each session, by its number.
+const PLACES: usize = SESSIONS as usize + 1;
+
+/// How often the session that writes looks whether the others have come, at most.
+const LOOKS: u32 = 64;
+
+/// How long it waits between two looks, in passes of a loop that does nothing: some microseconds.
+const SPINS: u32 = 64;
+
+/// The door of the log. One session writes for all that have committed, while the others sleep. Those whose commits it has written leave
+/// before the next write begins, and are waited for a moment, so that their next commits go with it.
+///
+/// It decides who sleeps and who writes, and no theorem depends on it: what the log keeps is decided at its turn.
+#[derive(Drop)]
+pub(crate) struct LogDoor {
+    waiting: Mutex<Waiting>,
+    changed: Condvar,
+}
+
+/// What sessions at the door know of each other.
+#[derive(Drop)]
+pub(crate) struct Waiting {
+    places: [Place; PLACES],
+    is_writing: bool,
+    /// How many writes there were, and two more.
+    writes: u64,
+    /// How many commits the log keeps, as the last write has told.
+    kept: u64,
+    /// True if the log has failed.
+    failed: bool,
+}
+
+/// What is known of a session.
+#[derive(Clone, Copy, Drop)]
+struct Place {
+    /// The commit for which it is at the door, by its number in the life; 0 if it is not there.
+    commit: u64,
+    /// The last write that has served it, by its number; 0 if none has.
+    served: u64,
+}
+
+/// How a session comes in.
+#[derive(Drop)]
+pub(crate) enum Pass<'a> {
+    /// It looks at what the log keeps. Nobody else comes in meanwhile.
+    Look(MutexGuard<'a, Waiting>),
+    /// It writes. Nobody else comes in until it has left.
+    Write(Session),
+}
+
+impl Waiting {
+    /// True if a write has served this commit, or none will.
+    fn is_settled(&self, number: u64) -> bool {
+        self.failed || number <= self.kept
+    }
+
+    /// True if a session is at the door that the last write has served.
+    fn is_any_leaving(&self) -> bool {
+        self.places
+            .iter()
+            .any(|place| place.commit != 0 && self.is_settled(place.commit))
+    }
+
+    /// True if each session that one of the last two writes has served is at the door again.
+    fn are_gathered(&self) -> bool {
+        self.places.iter().all(|place| place.commit != 0
+            || 2 <= self.writes.wrapping_sub(place.served))
+    }
+
+    /// Notes the commit for which a session is at the door.
+    fn come(&mut self, session: Session, commit: u64) {
+        if let Some(place) = self.places.get_mut(usize::from(session.0)) {
+            place.commit = commit;
+        }
+    }
+
+    /// Notes that a session goes out, which the last write has served.
+    fn go(&mut self, session: Session) {
+        let served = self.writes;
+        if let Some(place) = self.places.get_mut(usize::from(session.0)) {
+            *place = Place { commit: 0, served };
+        }
+    }
+}
+
+impl LogDoor {
+    /// Returns a door at which nobody is.
+    pub(crate) fn new() -> LogDoor {
+        let place = Place {
+            commit: 0,
+            served: 0,
+        };
+        LogDoor {
+            waiting: Mutex::new(Waiting {
+                places: [place; PLACES],
+                is_writing: false,
+                writes: 2,
+                kept: 0,
+                failed: false,
+            }),
+            changed: Condvar::new(),
+        }
+    }
+
+    /// Waits until the commit of this number is written, or it is this session's turn to write. It sleeps meanwhile.
+    pub(crate) fn pass<R: Wait>(&self, rt: &R, session: Session, number: u64) -> Pass<'_> {
+        let mut waiting = self.waiting.lock(rt);
+        for _ in rt.forever() {
+            if !waiting.is_writing && waiting.is_settled(number) {
+                waiting.go(session);
+                return Pass::Look(waiting);
+            }
+            waiting.come(session, number);
+            if !waiting.is_writing && !waiting.is_any_leaving() {
+                waiting.is_writing = true;
+                return Pass::Write(session);
+            }
+            waiting = self.changed.wait(rt, waiting);
+        }
+        unreachable!()
+    }
+
+    /// Waits a moment for the sessions that were served lately, so that their next commits are written with this session's.
+    pub(crate) fn gather<R: Wait>(&self, rt: &R) {
+        for _ in 0..LOOKS {
+            if self.waiting.lock(rt).are_gathered() {
+                return;
+            }
+            for _ in 0..SPINS {
+                hint::spin_loop();
+            }
+            thread::yield_now();
+        }
+    }
+
+    /// Goes out, and wakes those who wait for that. The log keeps `kept` commits; `failed` if it has failed.
+    pub(crate) fn leave<R: Wait>(&self, rt: &R, pass: Pass<'_>, kept: u64, failed: bool) {
+        match pass {
+            Pass::Look(waiting) => {
+                if !waiting.is_any_leaving() {
+                    self.changed.notify_one();
+                }
+            }
+            Pass::Write(session) => {
+                let mut waiting = self.waiting.lock(rt);
+                waiting.is_writing = false;
+                waiting.writes = waiting.writes.wrapping_add(1);
+                waiting.kept = kept;
+                waiting.failed = failed;
+                waiting.go(session);
+                self.changed.notify_all();
+            }
+        }
+    }
+}
