@@ -20,7 +20,9 @@
 //! these are the rows after the first k commits of the last epoch, and k is at least the number of the commits that were
 //! answered (clause `found`: `IsFound` in `specs/Found.antt`). The log keeps what `EpochServer` asks of it: a crash leaves the rows
 //! after the first k commits of the epoch, for a k that is at least the number of those that were written (`KeepsCommits` of
-//! `engine_store`). [`shared_lives_are_serial`]: the life of a shared store goes on from its past epochs as one serial run.
+//! `engine_store`). An epoch is to end if and only if 8,192 transactions have begun, a commit did not fit, or fewer bytes are left than
+//! the server holds in reserve (`is_to_end` in `specs/Ending.antt`). [`shared_lives_are_serial`]: the life of a shared store goes on from
+//! its past epochs as one serial run.
 //!
 //! **Not claimed**: that an epoch ends in time. A transaction that stays open keeps the next epoch from beginning.
 #![tactic(auto)]
