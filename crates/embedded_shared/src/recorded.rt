@@ -34,6 +34,9 @@ impl<D: Renew> Recorded<D> {
     }
 
     /// Prints the run of each epoch, the present one last. Each is preceded by the line `epoch`.
+    ///
+    /// # Errors
+    /// A write fails, or memory is out for the run of the present epoch. The runs before it may have been printed.
     pub fn print(&self, rt: &impl Print, alloc: Global) -> anyhow::Result<()> {
         for run in &self.runs {
             print_run(rt, run)?;
@@ -111,7 +114,10 @@ impl<D: Renew> EpochServer for Recorded<D> {
     }
 }
 
-/// Returns the printed run of the present epoch, and makes room for it among the runs.
+/// Returns the printed run of the present epoch, and makes room for it among the runs, which stay as they are.
+///
+/// # Errors
+/// `AllocError`: out of memory.
 fn next_run<D: Renew>(
     alloc: Global,
     server: &StoreServer<D>,
@@ -127,6 +133,9 @@ fn next_run<D: Renew>(
 }
 
 /// Returns the printed run of the present epoch.
+///
+/// # Errors
+/// `AllocError`: out of memory.
 #[tactic(auto, using(crate::proofs::Naming::named_by))]
 fn run_of<D: Renew>(alloc: Global, server: &StoreServer<D>) -> Result<Vec<u8>, AllocError>
     ensures { IfOk result (λ run. IsAudited run.items) }

@@ -5,6 +5,7 @@
 //! | Test in | Shows |
 //! |---|---|
 //! | `calls` | a reader waits until the writer commits, as polls and asking again tell it; one thread makes all calls |
+//! | `on_disk` | threads share a store on a disk that fails: a crash leaves each commit that was answered |
 //! | `stopping` | a session asks nothing while the stop word is raised, and without one it goes on to the end of its script |
 //! | `workers` | in `threads` and in `pool` one session is served while another is held; two threads commit all transactions of two scripts |
 //!
@@ -21,6 +22,8 @@
 mod calls;
 #[cfg(test)]
 mod hold;
+#[cfg(test)]
+mod on_disk;
 #[cfg(test)]
 mod plain;
 #[cfg(test)]
