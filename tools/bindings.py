@@ -37,7 +37,7 @@ WARNINGS = ["-std=c11", "-Wall", "-Wextra", "-Wpedantic", "-Werror"]
 SANITIZED = [*WARNINGS, "-g", "-O1", "-fsanitize=address,undefined", "-fno-sanitize-recover=all"]
 PACKAGES = {"rt": None, "gcc": "gcc libc6-dev", "ar": "binutils", "cargo": "cargo", "rustc": "rustc", "valgrind": "valgrind"}
 COMMITTED = r"committed 200, sum 300\n"
-# The bounds of the figures: an ask from C beside the engine's own part of it, in instructions, and a transfer from Python, in microseconds.
+# The bounds of the figures: an ask from C beside the engine's answer, in instructions, and a transfer from Python, in microseconds.
 MOST_COST, MOST_MICROSECONDS = 1.2, 20.0
 # How often the program over a file is killed in each language.
 KILLS = {"C": 50, "Rust": 10, "Python": 10}
@@ -222,13 +222,12 @@ def instructions(program, rounds, *names):
 
 
 def try_figures(tally, judges):
-    """Prints what an ask from C costs, in instructions and beside the engine's part of it, which is the answer and the room for it, and the
-    microseconds of a transfer from Python."""
+    """Prints what an ask from C costs, in instructions and beside the engine's answer alone, and the microseconds of a transfer from Python."""
     program = compiled(tally, C / "tests" / "asks.c", [*WARNINGS, "-O2"])
     if program and tally.has("the cost of an ask", "valgrind"):
-        whole, answer, room = instructions(program, 1000, r":tebaldi_ask\b", r"engine_core.*respond", r"engine_core.*make_room_ahead") or (0, 0, 0)
-        cost = whole / (answer + room) if answer else 0.0
-        print(f"bindings: {whole / 6000:.0f} instructions an ask from C, {cost:.2f} times the engine's", flush=True)
+        whole, answer = instructions(program, 1000, r":tebaldi_ask\b", r"engine_core.*respond") or (0, 0)
+        cost = whole / answer if answer else 0.0
+        print(f"bindings: {whole / 6000:.0f} instructions an ask from C, {cost:.2f} times the engine's answer", flush=True)
         tally.count("the cost of an ask", None if cost and (cost <= MOST_COST or not judges) else f"{cost} is not within {MOST_COST}")
     ran = run(sys.executable, PYTHON / "tests" / "transfer_cost.py")
     if tally.count("the time of a transfer", why_of(ran, r"[\d.]+\n")):

@@ -88,7 +88,7 @@ impl Shelf {
                 Ok(()) => OK,
                 Err(_) => OUT_OF_MEMORY,
             },
-            Contents::File(file) => ask_file(alloc, file, session, *request, reply),
+            Contents::File(file) => ask_file(alloc, file, session, request, reply),
         }
     }
 }
@@ -99,10 +99,10 @@ fn ask_file(
     alloc: Global,
     file: &mut FileStore,
     session: Session,
-    request: Request,
+    request: &Request,
     reply: &mut ReplyForm,
 ) -> u32
-    ensures ok { result ≡ OK → IsAnswered file.old.engine file.new.engine session.0 request reply.new }
+    ensures ok { result ≡ OK → IsAnswered file.old.engine file.new.engine session.0 request.now reply.new }
     ensures stays { result ≢ OK → result ≢ UNSURE → file.new ≡ file.old }
     ensures not_told { result ≢ OK → reply.new ≡ reply.old }
     ensures same { (file.new.engine.store ≡ file.old.engine.store) × (file.new.engine.names ≡ file.old.engine.names) }
@@ -110,8 +110,8 @@ fn ask_file(
     ensures same_failure { file.new.file.failed ≡ file.old.file.failed }
     ensures waiting { result ≡ WAITING → HasWaiting file.old }
     ensures stopped { result ≡ STOPPED → IsStopped file.old }
-    ensures no_room { result ≡ NO_ROOM → IsFullFor session.0 request file.old }
-    ensures unsure { result ≡ UNSURE → HasCommitted file.old.engine file.new.engine session.0 request × IsStopped file.new }
+    ensures no_room { result ≡ NO_ROOM → IsFullFor session.0 request.now file.old }
+    ensures unsure { result ≡ UNSURE → HasCommitted file.old.engine file.new.engine session.0 request.now × IsStopped file.new }
     ensures failed { file.old.file.failed ≡ true → result ≢ OK }
     ensures other { (result ≡ OK) ⊎ IsNoReply result }
 {
@@ -121,7 +121,7 @@ fn ask_file(
     if file.waiting() > 0 {
         return WAITING;
     }
-    match file.ask(alloc, session, request) {
+    match file.ask(alloc, session, *request) {
         Ok(answer) => {
             *reply = reply_form(&answer);
             OK
@@ -149,7 +149,7 @@ fn ask(
 {
     engine.ready()?;
     match request {
-        Request::Scan { .. } => ask_scan(engine, session, *request, reply),
+        Request::Scan { .. } => ask_scan(engine, session, request, reply),
         _ => {
             reply.clear();
             put_short_form(reply, &engine.ask_short(session, request));
@@ -163,14 +163,14 @@ fn ask(
 fn ask_scan(
     engine: &mut Engine<PooledChains>,
     session: Session,
-    request: Request,
+    request: &Request,
     reply: &mut ReplyForm,
 )
     requires { IsTrue engine.old.ready }
-    ensures reply { reply.new ≡ form (answer engine.old.store engine.old.events session request).0 }
-    ensures events { engine.new.events ≡ (answer engine.old.store engine.old.events session request).1 }
+    ensures reply { reply.new ≡ form (answer engine.old.store engine.old.events session request.now).0 }
+    ensures events { engine.new.events ≡ (answer engine.old.store engine.old.events session request.now).1 }
     ensures store { engine.new.store ≡ engine.old.store }
     ensures names { engine.new.names ≡ engine.old.names }
 {
-    *reply = reply_form(&engine.ask(session, request));
+    *reply = reply_form(&engine.ask(session, *request));
 }

@@ -17,6 +17,10 @@ use engine_core::Engine;
 use std::alloc::Global;
 use tree_toml::{TreeText, put_fault, read_tree};
 
+/// Room for this many events is made at the opening, so that their list need not move while they come. Room that is never written costs no
+/// memory.
+const EVENTS_AHEAD: usize = 16_384;
+
 /// Opens the store of a tree text.
 ///
 /// # Errors
@@ -65,6 +69,7 @@ fn shelf_of(alloc: Global, tree: &[u8]) -> Result<Box<Shelf>, TreeText>
 {
     let setup = read_tree(alloc, tree)?;
     let mut engine = Engine::new(alloc, setup, PooledChains::new(alloc))?;
+    engine.reserve_ahead(EVENTS_AHEAD)?;
     engine.ready()?;
     let shelf = Box::new(
         alloc,
