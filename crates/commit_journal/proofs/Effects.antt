@@ -39,13 +39,6 @@ module _ {D : Type 0} {safe : D → List ℕ} {faults : D → ℕ} {tally : D �
   runs_on (Ok reply) (committed c) runs = c.ok.1
   runs_on (Err e) effect runs = tt
 
-  -- an error is a fault of the disk
-  pub is_fault : (x : DurableError) (result : Result Reply DurableError) → Effect safe faults tally old new s r result
-      → IsErrOf result x → x ≡ errors.DiskFault
-  is_fault x (Ok reply) effect is = absurd (cc)
-  is_fault x (Err y) (told never same) is = absurd never
-  is_fault x (Err y) (committed c) is = let q : y ≡ x = cc in sym q ∙ c.err.0
-
   pub changes_at_fault : (result : Result Reply DurableError) → Effect safe faults tally old new s r result
       → IfErr result (λ e. (e ≡ errors.DiskFault → ⊥) → new ≡ old)
   changes_at_fault (Ok reply) effect = tt

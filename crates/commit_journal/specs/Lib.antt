@@ -1,4 +1,5 @@
 pub mod Answered
+pub mod Asking
 pub mod Errors
 pub mod Kept
 pub mod Whole

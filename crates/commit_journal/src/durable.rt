@@ -1,19 +1,16 @@
 //! A store on a disk.
 
-ghost use Rattle.std.specs.Prelude.{◌≡◌, ◌+◌, ◌*◌, ◌-◌, ◌^◌, ◌<◌, ◌≤◌, [], List, ℕ, length, Some, true, false, IsTrue, IfOk, IfErr, OnOk, IsErrOf, IsOk, IsErr};
+ghost use Rattle.std.specs.Prelude.{◌≡◌, ◌+◌, ◌-◌, ◌^◌, ◌<◌, [], List, ℕ, length, true, false, IsTrue, IfOk, IfErr, OnOk, IsErrOf, IsOk, IsErr};
 ghost use Rattle.teb_io.specs.Faults.{Rose};
-ghost use Rattle.teb_names.specs.declared.Reply.TheVariants as replies;
 ghost use Rattle.teb_rules.specs.Answer.{answer};
 ghost use Rattle.crash_disk.specs.Disk.{LeavesOnly};
 ghost use Rattle.crash_disk.specs.Spare.{Covers};
-ghost use Rattle.commit_laws.specs.Commits.{commit_count};
 ghost use Rattle.commit_laws.specs.Laws.{IsOfSerialRun};
 ghost use Rattle.crash_disk.specs.Calls.{AreSure, Fails, IsUpTo};
-ghost use Rattle.crash_disk.specs.Sizes.{default_capacity};
-ghost use Rattle.record_journal.specs.Format.{records, recovered, room_of, Whole};
-ghost use Rattle.commit_laws.specs.Records.{records_of, puts_of};
+ghost use Rattle.record_journal.specs.Format.{records, room_of};
 ghost use Rattle.commit_journal.specs.Answered.{Answered, IsBodyFor};
-ghost use Rattle.commit_journal.specs.Kept.{IsFull, IsSameStore, committing, kept_of};
+ghost use Rattle.commit_journal.specs.Asking.{Acknowledges, FailsAtCommit, MakesCalls, RefusesOnly};
+ghost use Rattle.commit_journal.specs.Kept.{IsFull, IsSameStore, kept_of};
 ghost use Rattle.commit_journal.specs.Whole.{HasFirst, KeepsAll};
 ghost use Rattle.commit_journal.specs.declared.error.DurableError.TheVariants as errors;
 
@@ -87,49 +84,23 @@ impl<C: Chains, D: Disk> Durable<C, D> {
         ensures store { IsSameStore self.old self.new }
         ensures reply { IfOk result (λ reply. reply ≡ (answer self.old.store self.old.events session request).0) }
         ensures events { OnOk result (self.new.events ≡ (answer self.old.store self.old.events session request).1) }
-
-        // The count rises by one if a commit is answered. As long as the disk has not failed, all commits are counted.
-        ensures acknowledged { IfOk result (λ reply. reply ≡ replies.Committed → self.new.acknowledged ≡ self.old.acknowledged + 1) }
-        ensures others { IfOk result (λ reply. (reply ≡ replies.Committed → ⊥) → self.new.acknowledged ≡ self.old.acknowledged) }
-        ensures all { self.new.stopped ≡ false → self.new.acknowledged ≡ commit_count self.new.events }
-        // The journal ends after their records.
-        ensures end { self.new.stopped ≡ false → self.new.end ≡ length (records (records_of self.new.store.setup self.new.events)) }
+        ensures acknowledged { Acknowledges self.old self.new result }
 
         // Every image that a crash leaves, during the call or after it, has the records of the first commits, at least of those
         // that were acknowledged before.
         ensures any_moment { LeavesOnly D.moment D.left_since self.old.disk self.new.disk (HasFirst self.new.store self.new.events self.old.acknowledged) }
         ensures images { (image : List ℕ) → D.may_leave self.new.disk image → HasFirst self.new.store self.new.events self.new.acknowledged image }
 
+        // Nothing is asked of a store that is stopped, or that has no room. A fault occurs only at a commit.
         ensures goes_on { OnOk result (self.new.stopped ≡ false) }
-        ensures stopped { IsErrOf result errors.Stopped → self.old.stopped ≡ true }
-        ensures stays { self.old.stopped ≡ true → IsErrOf result errors.Stopped }
-        ensures full { IsErrOf result errors.Full → IsFull self.old.events (room_of (D.capacity self.old.disk) - self.old.end) session request }
-        ensures fits { OnOk result (IsFull self.old.events (room_of (D.capacity self.old.disk) - self.old.end) session request → ⊥) }
-        ensures not_full { IsErrOf result errors.DiskFault → IsFull self.old.events (room_of (D.capacity self.old.disk) - self.old.end) session request → ⊥ }
+        ensures refuses { RefusesOnly D.capacity self.old session request result }
         ensures not_asked { IfErr result (λ e. (e ≡ errors.DiskFault → ⊥) → self.new ≡ self.old) }
+        ensures fault { IsErrOf result errors.DiskFault → FailsAtCommit D.safe D.faults self.old self.new session request }
 
-        ensures capacity { D.capacity self.new.disk ≡ D.capacity self.old.disk }
-
-        // No call of the disk runs out of memory.
+        // A commit makes four calls of the disk, none of which runs out of memory. No other request makes a call.
+        ensures calls { MakesCalls D.tally self.old self.new session request result }
         ensures memory { D.refusals self.new.disk ≡ D.refusals self.old.disk }
-
-        // A fault occurs only at a commit, which the disk may have or not.
-        ensures fault { IsErrOf result errors.DiskFault → Rose (D.faults self.old.disk) (D.faults self.new.disk) }
-        ensures at_commit { IsErrOf result errors.DiskFault → ((answer self.old.store self.old.events session request).0 ≡ replies.Committed)
-            × (self.new.events ≡ (answer self.old.store self.old.events session request).1)
-            × (self.new.acknowledged ≡ self.old.acknowledged) × (self.new.stopped ≡ true) }
-        // What was safe at the last good sync has only the earlier commits.
-        ensures not_added { IsErrOf result errors.DiskFault → recovered default_capacity (D.safe self.new.disk) ≡ Whole (records_of self.old.store.setup self.old.events) }
-
-        // A commit makes four calls of the disk, up to the first that fails, and writes one byte more than the journal grows. No
-        // other request makes a call of the disk.
-        ensures untouched { IfOk result (λ reply. (reply ≡ replies.Committed → ⊥) → self.new.disk ≡ self.old.disk) }
-        ensures counted { IfOk result (λ reply. reply ≡ replies.Committed → (D.tally self.old.disk).made + 4 < 2 ^ 64 → (D.tally self.new.disk).made ≡ (D.tally self.old.disk).made + 4) }
-        ensures written { IfOk result (λ reply. (D.tally self.new.disk).written + self.old.end ≤ (D.tally self.old.disk).written + self.new.end + 1) }
-        ensures up_to { (t : ℕ) → committing self.old.events session request ≡ Some t → IsUpTo 4 (6 + 14 * length (puts_of self.old.events t)) (D.tally self.old.disk) (D.tally self.new.disk) }
-        ensures sure { (t : ℕ) → committing self.old.events session request ≡ Some t
-            → AreSure (D.tally self.old.disk).promise.writes 4 (6 + 14 * length (puts_of self.old.events t)) (D.tally self.old.disk) → IsErrOf result errors.DiskFault → ⊥ }
-        ensures fails { Fails 4 (D.tally self.old.disk) → IfOk result (λ reply. reply ≡ replies.Committed → ⊥) }
+        ensures capacity { D.capacity self.new.disk ≡ D.capacity self.old.disk }
     {
         let (body, memory) = prepared(alloc, &mut self.engine, &self.journal, session, request)?;
         answered(

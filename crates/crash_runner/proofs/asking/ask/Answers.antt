@@ -18,8 +18,8 @@ returns-in_ok-push-in-Ok-clause-underway g c =
     subst (IsUnderway (d.tally old.disk).promise d.tally d.safe new) (sym c.in_ok-push-in-Ok.ensures.items)
     (goes_on d.tally d.safe d.may_leave g.met.D.Disk.safe_is_left (d.tally old.disk).promise old new c.args.log.now.items c.args.session c.args.request c.requires.underway c.requires.few
     c.in-Ok.ensures.store
-    c.in-Ok.reply c.in-Ok.ensures.reply c.in-Ok.ensures.events c.in-Ok.ensures.goes_on (c.in-Ok.ensures.all c.in-Ok.ensures.goes_on) (c.in-Ok.ensures.end c.in-Ok.ensures.goes_on)
-    c.in-Ok.ensures.images c.in-Ok.ensures.untouched c.in-Ok.ensures.counted c.in-Ok.ensures.written c.in-Ok.ensures.up_to c.in-Ok.ensures.fails)
+    c.in-Ok.reply c.in-Ok.ensures.reply c.in-Ok.ensures.events c.in-Ok.ensures.goes_on (c.in-Ok.ensures.acknowledged.all c.in-Ok.ensures.goes_on) (c.in-Ok.ensures.acknowledged.end c.in-Ok.ensures.goes_on)
+    c.in-Ok.ensures.images c.in-Ok.ensures.calls.untouched c.in-Ok.ensures.calls.counted c.in-Ok.ensures.calls.written c.in-Ok.ensures.calls.up_to c.in-Ok.ensures.calls.fails)
 
 pub returns-in_ok-push-in-Ok-clause-asked : goal.returns-in_ok-push-in-Ok-clause-asked
 returns-in_ok-push-in-Ok-clause-asked g c =
@@ -39,14 +39,14 @@ returns-in_ok-push-in-Ok-clause-one g c =
     omega (arith, added, light c.args.request)
 
 pub halt_of-requires-clause-running : goal.halt_of-requires-clause-running
-halt_of-requires-clause-running g c is = absurd (both_ways _ c.requires.underway.runs (c.in-Err.ensures.stopped (as_error c.in-Err.error _ is)))
+halt_of-requires-clause-running g c is = absurd (both_ways _ c.requires.underway.runs (c.in-Err.ensures.refuses.stopped (as_error c.in-Err.error _ is)))
 
 pub halt_of-requires-clause-room : goal.halt_of-requires-clause-room
 halt_of-requires-clause-room g c is =
     let d = g.D.Disk in
     let old = c.args.durable.now in
     never_full d.tally d.safe d.may_leave g.met.D.Disk.safe_is_left (d.tally old.disk).promise old c.args.log.now.items c.args.session c.args.request c.requires.underway c.requires.few
-    (d.capacity old.disk) c.requires.wide (c.in-Err.ensures.full (as_error c.in-Err.error _ is))
+    (d.capacity old.disk) c.requires.wide (c.in-Err.ensures.refuses.full (as_error c.in-Err.error _ is))
 
 pub returns-in-Err-clause-stopped : goal.returns-in-Err-clause-stopped
 returns-in-Err-clause-stopped g c rest is =
@@ -55,12 +55,12 @@ returns-in-Err-clause-stopped g c rest is =
     let fault = as_error c.in-Err.error _ (c.halt_of.ensures.0 (of_halt c.halt_of.result _ is)) in
     stops_here d.tally d.safe d.may_leave g.met.D.Disk.safe_is_left (d.tally old.disk).promise old c.ask.new.self c.args.log.now.items c.args.session c.args.request c.requires.underway c.requires.few
     c.in-Err.ensures.store rest
-    (c.in-Err.ensures.at_commit fault).0 (c.in-Err.ensures.not_added fault) c.in-Err.ensures.up_to (λ t asked sure. c.in-Err.ensures.sure t asked sure fault)
+    (c.in-Err.ensures.fault fault).commits (c.in-Err.ensures.fault fault).not_added c.in-Err.ensures.calls.up_to (λ t asked sure. c.in-Err.ensures.calls.sure t asked sure fault)
 
 pub returns-in-Err-clause-halts : goal.returns-in-Err-clause-halts
 returns-in-Err-clause-halts g c =
     let e = c.in-Err.ensures in (
-      λ is. (e.at_commit (as_error c.in-Err.error _ (c.halt_of.ensures.0 is))).3,
+      λ is. (e.fault (as_error c.in-Err.error _ (c.halt_of.ensures.0 is))).stopped,
       λ stopped. elim (fault_or_not c.in-Err.error) [
         | inl fault ↦ c.halt_of.ensures.1 fault
         | inr other ↦ absurd (both_ways _ c.requires.underway.runs (sym (ap (λ (k : Kept _). k.stopped) (e.not_asked other)) ∙ stopped))

@@ -1,11 +1,9 @@
-use Rattle.std.proofs.Common.{◌∙◌, ◌-◌, subst, sym, ap}
-use Rattle.record_journal.specs.Format.{room_of}
-use Rattle.commit_journal.specs.declared.error.DurableError.TheVariants as errors
+use Rattle.std.proofs.Common.{◌∙◌, subst, sym, ap, rules}
 use Rattle.commit_journal.specs.Answered.{Answered}
-use Rattle.commit_journal.specs.Kept.{Kept, IsFull, kept_of}
+use Rattle.commit_journal.specs.Kept.{Kept, kept_of}
 use Rattle.commit_journal.proofs.Asked.{all_acknowledged, ends_behind}
 use Rattle.commit_journal.proofs.Answered.{keeps_alike}
-use Rattle.commit_journal.proofs.Effects.{acknowledges, acknowledges_none, runs_on, is_fault, changes_at_fault, fault_rose, fault_at_commit}
+use Rattle.commit_journal.proofs.Effects.{acknowledges, acknowledges_none, runs_on, changes_at_fault, fault_rose, fault_at_commit}
 use Rattle.commit_journal.proofs.Effects.{fault_adds_nothing, touches_none, makes_four, writes_one_more, makes_few, never_at_fault, fails_at_commit}
 use Rattle.commit_journal.proofs.durable.Durable.ask.Given.{Over}
 use Rattle.commit_journal.proofs.durable.Durable.ask.Goals as goal
@@ -28,29 +26,11 @@ pub invariant_of-self : goal.invariant_of-self
 invariant_of-self g c =
     keeps_alike g.D.Disk.seen g.D.Disk.may_leave c.self.inside.engine c.prepared.new.engine c.self.inside.journal c.prepared.ensures.same c.self.invariant
 
-pub returns-in_err-body-clause-all : goal.returns-in_err-body-clause-all
-returns-in_err-body-clause-all g c =
-    all_acknowledged g.D.Disk.seen g.D.Disk.may_leave c.prepared.new.engine.store c.prepared.new.engine.events c.self.inside.journal
-    (keeps_alike g.D.Disk.seen g.D.Disk.may_leave c.self.inside.engine c.prepared.new.engine c.self.inside.journal c.prepared.ensures.same c.self.invariant)
-
-pub returns-in_err-body-clause-end : goal.returns-in_err-body-clause-end
-returns-in_err-body-clause-end g c =
-    ends_behind g.D.Disk.seen g.D.Disk.may_leave c.prepared.new.engine.store c.prepared.new.engine.events c.self.inside.journal
-    (keeps_alike g.D.Disk.seen g.D.Disk.may_leave c.self.inside.engine c.prepared.new.engine c.self.inside.journal c.prepared.ensures.same c.self.invariant)
-
 pub returns-clause-store : goal.returns-clause-store
 returns-clause-store g c = (did g c).store
 
 pub returns-clause-reply : goal.returns-clause-reply
 returns-clause-reply g c = (did g c).reply
-
-pub returns-clause-all : goal.returns-clause-all
-returns-clause-all g c =
-    all_acknowledged g.D.Disk.seen g.D.Disk.may_leave c.answered.new.engine.store c.answered.new.engine.events c.answered.new.journal c.answered.ensures.keeps
-
-pub returns-clause-end : goal.returns-clause-end
-returns-clause-end g c =
-    ends_behind g.D.Disk.seen g.D.Disk.may_leave c.answered.new.engine.store c.answered.new.engine.events c.answered.new.journal c.answered.ensures.keeps
 
 pub returns-clause-any_moment : goal.returns-clause-any_moment
 returns-clause-any_moment g c = (did g c).any_moment
@@ -58,54 +38,51 @@ returns-clause-any_moment g c = (did g c).any_moment
 pub returns-clause-images : goal.returns-clause-images
 returns-clause-images g c = c.answered.ensures.keeps.each
 
-pub returns-clause-acknowledged : goal.returns-clause-acknowledged
-returns-clause-acknowledged g c = acknowledges c.answered.result (did g c).effect
-
-pub returns-clause-others : goal.returns-clause-others
-returns-clause-others g c = acknowledges_none c.answered.result (did g c).effect
-
 pub returns-clause-not_asked : goal.returns-clause-not_asked
 returns-clause-not_asked g c = changes_at_fault c.answered.result (did g c).effect
-
-pub returns-clause-fault : goal.returns-clause-fault
-returns-clause-fault g c = fault_rose c.answered.result (did g c).effect
-
-pub returns-clause-not_added : goal.returns-clause-not_added
-returns-clause-not_added g c = fault_adds_nothing c.answered.result (did g c).effect
-
-pub returns-clause-untouched : goal.returns-clause-untouched
-returns-clause-untouched g c = touches_none c.answered.result (did g c).effect
-
-pub returns-clause-counted : goal.returns-clause-counted
-returns-clause-counted g c = makes_four c.answered.result (did g c).effect
-
-pub returns-clause-written : goal.returns-clause-written
-returns-clause-written g c = writes_one_more c.answered.result (did g c).effect
-
-pub returns-clause-up_to : goal.returns-clause-up_to
-returns-clause-up_to g c = makes_few c.answered.result (did g c).effect
-
-pub returns-clause-sure : goal.returns-clause-sure
-returns-clause-sure g c = never_at_fault c.answered.result (did g c).effect
-
-pub returns-clause-fails : goal.returns-clause-fails
-returns-clause-fails g c = fails_at_commit c.answered.result (did g c).effect
-
-pub returns-clause-at_commit : goal.returns-clause-at_commit
-returns-clause-at_commit g c = fault_at_commit c.answered.result (did g c).effect (did g c).events
 
 pub returns-clause-goes_on : goal.returns-clause-goes_on
 returns-clause-goes_on g c = runs_on c.answered.result (did g c).effect (sym (ap (λ (o : Kept _). o.stopped) c.self.view_is) ∙ c.in_ok-body.ensures.runs)
 
-pub returns-clause-stopped : goal.returns-clause-stopped
-returns-clause-stopped g c is = let fault = is_fault errors.Stopped c.answered.result (did g c).effect is in absurd (cc)
-
-pub returns-clause-full : goal.returns-clause-full
-returns-clause-full g c is = let fault = is_fault errors.Full c.answered.result (did g c).effect is in absurd (cc)
-
 pub returns-clause-capacity : goal.returns-clause-capacity
 returns-clause-capacity g c = c.answered.ensures.capacity ∙ ap (λ (o : Kept _). g.D.Disk.capacity o.disk) c.self.view_is
 
-pub returns-clause-not_full : goal.returns-clause-not_full
-returns-clause-not_full g c fault full =
-    c.in_ok-body.ensures.fits (subst (λ (o : Kept _). IsFull o.events (room_of (g.D.Disk.capacity o.disk) - o.end) c.args.session c.args.request) (sym c.self.view_is) full)
+pub returns-in_err-body-clause-acknowledged : goal.returns-in_err-body-clause-acknowledged
+returns-in_err-body-clause-acknowledged g c =
+    let kept = keeps_alike g.D.Disk.seen g.D.Disk.may_leave c.self.inside.engine c.prepared.new.engine c.self.inside.journal c.prepared.ensures.same c.self.invariant in
+    record {
+      one = search rules;
+      others = search rules;
+      all = all_acknowledged g.D.Disk.seen g.D.Disk.may_leave c.prepared.new.engine.store c.prepared.new.engine.events c.self.inside.journal kept;
+      end = ends_behind g.D.Disk.seen g.D.Disk.may_leave c.prepared.new.engine.store c.prepared.new.engine.events c.self.inside.journal kept;
+    }
+
+pub returns-clause-acknowledged : goal.returns-clause-acknowledged
+returns-clause-acknowledged g c = record {
+  one = acknowledges c.answered.result (did g c).effect;
+  others = acknowledges_none c.answered.result (did g c).effect;
+  all = all_acknowledged g.D.Disk.seen g.D.Disk.may_leave c.answered.new.engine.store c.answered.new.engine.events c.answered.new.journal c.answered.ensures.keeps;
+  end = ends_behind g.D.Disk.seen g.D.Disk.may_leave c.answered.new.engine.store c.answered.new.engine.events c.answered.new.journal c.answered.ensures.keeps;
+}
+
+pub returns-clause-fault : goal.returns-clause-fault
+returns-clause-fault g c is =
+    let commit = fault_at_commit c.answered.result (did g c).effect (did g c).events is in
+    record {
+      cause = fault_rose c.answered.result (did g c).effect is;
+      commits = commit.0;
+      events = commit.1;
+      acknowledged = commit.2;
+      stopped = commit.3;
+      not_added = fault_adds_nothing c.answered.result (did g c).effect is;
+    }
+
+pub returns-clause-calls : goal.returns-clause-calls
+returns-clause-calls g c = record {
+  untouched = touches_none c.answered.result (did g c).effect;
+  counted = makes_four c.answered.result (did g c).effect;
+  written = writes_one_more c.answered.result (did g c).effect;
+  up_to = makes_few c.answered.result (did g c).effect;
+  sure = never_at_fault c.answered.result (did g c).effect;
+  fails = fails_at_commit c.answered.result (did g c).effect;
+}
