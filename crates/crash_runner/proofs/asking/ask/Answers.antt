@@ -17,8 +17,8 @@ returns-in_ok-push-in-Ok-clause-underway g c =
     let new = c.ask.new.self in
     subst (IsUnderway (d.tally old.disk).promise d.tally d.safe new) (sym c.in_ok-push-in-Ok.ensures.items)
     (goes_on d.tally d.safe d.may_leave g.met.D.Disk.safe_is_left (d.tally old.disk).promise old new c.args.log.now.items c.args.session c.args.request c.requires.underway c.requires.few
-    c.in-Ok.ensures.store
-    c.in-Ok.reply c.in-Ok.ensures.reply c.in-Ok.ensures.events c.in-Ok.ensures.goes_on (c.in-Ok.ensures.acknowledged.all c.in-Ok.ensures.goes_on) (c.in-Ok.ensures.acknowledged.end c.in-Ok.ensures.goes_on)
+    c.in-Ok.ensures.store c.in-Ok.reply c.in-Ok.ensures.reply c.in-Ok.ensures.events c.in-Ok.ensures.goes_on
+    (c.in-Ok.ensures.acknowledged.all c.in-Ok.ensures.goes_on) (c.in-Ok.ensures.acknowledged.end c.in-Ok.ensures.goes_on)
     c.in-Ok.ensures.images c.in-Ok.ensures.calls.untouched c.in-Ok.ensures.calls.counted c.in-Ok.ensures.calls.written c.in-Ok.ensures.calls.up_to c.in-Ok.ensures.calls.fails)
 
 pub returns-in_ok-push-in-Ok-clause-asked : goal.returns-in_ok-push-in-Ok-clause-asked
