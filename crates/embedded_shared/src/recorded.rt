@@ -1,8 +1,10 @@
 //! A server that keeps the printed run of each epoch.
 
 ghost use Rattle.std.specs.Prelude.{◌≡◌, ◌<◌, All, IfOk, OnOk, length, vec_capacity};
+ghost use Rattle.teb_history.specs.Phases.{begun_count};
 ghost use Rattle.audit_check.specs.Audit.{IsAudited};
 ghost use Rattle.engine_store.specs.Halves.{AreCommitsSince, KeepsCommits};
+ghost use Rattle.store_server.specs.Ending.{is_to_end};
 ghost use Rattle.store_server.specs.Standings.{standing_of};
 
 use crash_disk::Renew;
@@ -68,6 +70,8 @@ impl<D: Renew> EpochServer for Recorded<D> {
     ghost keeps = { λ log X H n. KeepsCommits D.seen D.may_leave X H n log };
 
     ghost failed = { λ log. log.stopped };
+
+    ghost ending = { λ s. is_to_end s.server.is_full s.server.queue.left s.server.reserve (begun_count s.server.queue.engine.events) };
 
     fn serve(&mut self, alloc: Global, session: Session, request: Request) -> Result<Reply, Fault> {
         self.server.serve(alloc, session, request)

@@ -7,11 +7,11 @@ use teb_names::{SESSIONS, Session};
 /// A place for each session, by its number.
 const PLACES: usize = SESSIONS as usize + 1;
 
-/// How often the session that writes looks whether the others have come, at most.
-const LOOKS: u32 = 64;
+/// How often the session that writes looks at the door, at most, until another one comes.
+const LOOKS: u32 = 16;
 
 /// How long it waits between two looks, in passes of a loop that does nothing: some microseconds.
-const SPINS: u32 = 64;
+const SPINS: u32 = 256;
 
 /// The door of the log. One session writes for all that have committed, while the others sleep. Those whose commits it has written leave
 /// before the next write begins, and are waited for a moment, so that their next commits go with it.
@@ -73,6 +73,11 @@ impl Waiting {
             || 2 <= self.writes.wrapping_sub(place.served))
     }
 
+    /// How many sessions are at the door.
+    fn present(&self) -> usize {
+        self.places.iter().filter(|place| place.commit != 0).count()
+    }
+
     /// Notes the commit for which a session is at the door.
     fn come(&mut self, session: Session, commit: u64) {
         if let Some(place) = self.places.get_mut(usize::from(session.0)) {
@@ -126,17 +131,38 @@ impl LogDoor {
         unreachable!()
     }
 
-    /// Waits a moment for the sessions that were served lately, so that their next commits are written with this session's.
+    /// Waits for the sessions that were served lately, so that their next commits are written with this session's: until all are at the door,
+    /// or none has come for a moment.
     pub(crate) fn gather<R: Wait>(&self, rt: &R) {
-        for _ in 0..LOOKS {
-            if self.waiting.lock(rt).are_gathered() {
+        let mut last = 0;
+        for _ in 0..PLACES {
+            let Some(present) = self.await_another(rt, last) else {
                 return;
+            };
+            last = present;
+        }
+    }
+
+    /// Waits until more than so many sessions are at the door, and returns how many are; none if none has come for a moment, or all that
+    /// were served lately are there.
+    fn await_another<R: Wait>(&self, rt: &R, last: usize) -> Option<usize> {
+        for _ in 0..LOOKS {
+            let present = {
+                let waiting = self.waiting.lock(rt);
+                if waiting.are_gathered() {
+                    return None;
+                }
+                waiting.present()
+            };
+            if last < present {
+                return Some(present);
             }
             for _ in 0..SPINS {
                 hint::spin_loop();
             }
             thread::yield_now();
         }
+        None
     }
 
     /// Goes out, and wakes those who wait for that. The log keeps `kept` commits; `failed` if it has failed.
