@@ -1,5 +1,5 @@
 -- What a call makes of a session, by what its seats have seen.
-use Rattle.std.proofs.Common.{◌≡◌, ◌≢◌, Result, Ok, Err, ℕ, ◌+◌, List, ◌++◌, Some, append_assoc, refl, ◌∙◌, ap, subst}
+use Rattle.std.proofs.Common.{◌≡◌, ◌≢◌, Result, Ok, Err, ℕ, ◌+◌, ◌*◌, ◌≤◌, List, ◌++◌, Some, append_assoc, refl, ◌∙◌, ap, subst, arith}
 use Rattle.std.specs.Prelude.{IfOk, IsTrue}
 use Rattle.teb_names.specs.declared.Reply.{Reply as TheReply}
 use Rattle.teb_names.specs.declared.Reply.TheVariants.{Committed}
@@ -15,6 +15,8 @@ use Rattle.shared_store.specs.declared.reply.StoreReply.{StoreReply}
 use Rattle.shared_store.specs.declared.reply.StoreReply.TheVariants.{Reply, Later, Ended}
 use Rattle.shared_store.specs.declared.server.EpochServer.{Ghosts}
 use Rattle.shared_store.specs.declared.session.StoreSession.{StoreSession}
+use Rattle.shared_store.specs.declared.session.TheConstants.{MOST_ASKS, MOST_TURNS}
+use Rattle.shared_store.specs.Known.{Knows}
 use Rattle.shared_store.specs.Stages.{Stage}
 use Rattle.shared_store.specs.Lives.{calls_of}
 use Rattle.shared_store.specs.Gaining.{Gains, SafeAt, SeesCall, SeesMarks, TakesTurns, is_commit_reply}
@@ -72,3 +74,7 @@ module _ {V L B : Type 0} {g : Ghosts V L B} (b : Stage) (old new : StoreSession
 
 pub safe : {V L B : Type 0} {g : Ghosts V L B} (b : Stage) (p : StoreSession V L B g) → SafeAt b (view_of p.seat).seen (view_of p.log_seat).seen → IsSafe b p
 safe b p s = record { stage = s.stage; leads = s.leads; kept = s.kept }
+
+-- what the seat of a session knows after some turns
+pub knows_on : (s asks later n : ℕ) (v w : View LifeEntry Stage) → Knows s asks v → TakesTurns n v w → MOST_TURNS ≤ w.turns + 2 * later → later ≤ MOST_ASKS → Knows s later w
+knows_on s asks later n v w k t turns few = record { owner = t.owners ∙ k.owner; turns = turns; few = few; legal = λ b e. t.legal b e }

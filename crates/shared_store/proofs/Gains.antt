@@ -42,6 +42,10 @@ module _ (b : Stage) (s : Session) (u v w : View LifeEntry Stage) (m : SeesMarks
   sees_on q answer.Ending a = marks_on a
   sees_on q (answer.Unasked f) a = marks_on a
 
+-- what is seen from the same seat of the same session
+pub sees_from : (b : Stage) (r s : Session) (q : Request) (a : Answer) (u v w : View LifeEntry Stage) → r ≡ s → u ≡ v → Sees b r q a u w → Sees b s q a v w
+sees_from b r s q a u v w e f h = subst (λ (p : Session × View LifeEntry Stage). Sees b p.0 q a p.1 w) (λ i. (e i, f i)) h
+
 -- what is seen by an answer that is known
 module _ (b : Stage) (s : Session) (q : Request) (v w : View LifeEntry Stage) (o : Answer) (h : Sees b s q o v w) where
   at : (p : Answer) → o ≡ p → Sees b s q p v w

@@ -13,5 +13,6 @@ pub mod Gaining
 pub mod Keeping
 pub mod Known
 pub mod Sharing
+pub mod Sparing
 pub mod Ending
 pub mod Closing

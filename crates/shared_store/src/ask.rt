@@ -9,13 +9,11 @@ ghost use Rattle.shared_store.specs.declared.reply.StoreReply.TheVariants as sto
 ghost use Rattle.shared_store.specs.Beginning.{IsBegin};
 ghost use Rattle.shared_store.specs.Sharing.{base_of, IsAnswered, IsSafe, IsSessionOf, IsUnasked, told};
 
-use crate::asking::ask_through;
 use crate::error::{Failure, StoreError};
 use crate::reply::StoreReply;
 use crate::server::EpochServer;
 use crate::session::{MOST_ASKS, StoreSession};
 use crate::store::Store;
-use crate::taking::take_turn_to_end;
 use std::alloc::Global;
 use std::sync::Wait;
 use teb_names::{Request, Session};
@@ -55,16 +53,8 @@ impl<S: EpochServer> StoreSession<S> {
         if self.asks == MOST_ASKS {
             return Err(StoreError::Spent);
         }
-        let answer = ask_through(
-            rt,
-            alloc,
-            store,
-            &mut self.seat,
-            &mut self.log_seat,
-            self.session,
-            request,
-        );
         self.asks += 1;
+        let answer = self.ask_through(store, rt, alloc, request);
         match answer {
             Ok(reply) => Ok(reply),
             Err(failure) => match failure {
@@ -99,7 +89,9 @@ impl<S: EpochServer> StoreSession<S> {
             return Err(StoreError::Spent);
         }
         let inside = store.door.lock(rt);
-        let ended = take_turn_to_end(rt, alloc, &store.turn, &mut self.seat, self.session, other);
+        let mut hosted = store.turn.enter(rt, &mut self.seat);
+        let ended = hosted.end_for(alloc, self.session, other);
+        store.turn.leave(&mut self.seat, hosted);
         drop(inside);
         self.asks += 1;
         match ended {

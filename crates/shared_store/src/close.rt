@@ -42,9 +42,9 @@ impl<S: EpochServer> Store<S> {
         }
         sessions.destroy_empty();
         let keeper = log_turn.end(log_seat);
-        let (total, failed) = (keeper.total, keeper.failed);
+        let total = keeper.total;
         let (log, given) = keeper.into_parts();
         turn.join(&mut seat, given);
-        turn.end(seat).finish(alloc, log, total, failed)
+        turn.end(seat).finish(alloc, log, total)
     }
 }

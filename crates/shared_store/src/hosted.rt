@@ -1,7 +1,6 @@
 //! The value that goes from turn to turn at the front: the server, with what proofs know of its life.
 
-ghost use Rattle.std.specs.Prelude.{◌≡◌, ◌≢◌, ◌+◌, ◌<◌, ◌≤◌, [], ◌∷◌, ◌++◌, Bool, true, false, IfOk, IfErr, OnOk};
-ghost use Rattle.commit_laws.specs.Commits.{commit_count};
+ghost use Rattle.std.specs.Prelude.{◌≡◌, ◌≢◌, ◌≤◌, [], ◌∷◌, ◌++◌, true, false, IfOk, IfErr};
 ghost use Rattle.teb_names.specs.declared.TheConstants.{SESSIONS};
 ghost use Rattle.shared_store.specs.declared.entry.LifeEntry.TheVariants as entries;
 ghost use Rattle.shared_store.specs.declared.entry.TheConstants.{LOG_SEAT};
@@ -15,6 +14,7 @@ ghost use Rattle.shared_store.specs.Stages.{first_stage};
 ghost use Rattle.shared_store.specs.Turning.{Adds, AddsMarks, AddsResult, GrowsBy, IsNumbered, IsOfRules, IsPutOff};
 
 use crate::answer::Answer;
+use crate::due_epoch::DueEpoch;
 use crate::entry::LifeEntry;
 use crate::error::Fault;
 use crate::first::First;
@@ -197,7 +197,8 @@ impl<S: EpochServer> Hosted<S> {
         }
         match self.server.serve(alloc, session, request) {
             Ok(reply) => {
-                self.commits = counted(self.commits, &reply);
+                let more = commits_of(&reply);
+                self.commits += more;
                 self.entries.push(LifeEntry::Asked {
                     by,
                     session,
@@ -224,7 +225,7 @@ impl<S: EpochServer> Hosted<S> {
     }
 
     /// True if the epoch is to end, and nothing keeps it from its end.
-    pub(crate) fn can_end(&self) -> bool
+    fn can_end(&self) -> bool
         ensures drained { result ≡ true → IsDrained (S.standing self.now.server).events × (self.now.stopped ≡ false) }
         ensures ending { result ≡ true → S.ending self.now.server ≡ true }
     {
@@ -238,7 +239,7 @@ impl<S: EpochServer> Hosted<S> {
     }
 
     /// Keeps that the log has failed, if it has.
-    fn stop_if(&mut self, failed: bool)
+    pub(crate) fn stop_if(&mut self, failed: bool)
         ensures grows { GrowsBy LOG_SEAT self.old.entries.items self.new.entries.items }
         ensures taken { taken_of self.new.entries.items ≡ taken_of self.old.entries.items }
         ensures first { self.new.first ≡ self.old.first }
@@ -248,20 +249,17 @@ impl<S: EpochServer> Hosted<S> {
         }
     }
 
-    /// Writes what waits, and ends the epoch, at the turn of the log's seat. The log keeps the first `total` commits. It returns how many it
-    /// keeps then, and whether it has failed.
+    /// Ends the epoch at the turn of the log's seat, if it is to end and nothing keeps it from that. The log keeps the first `total` commits.
+    /// It returns how many it keeps then, and whether it has failed.
     ///
     /// # Errors
     /// The epoch goes on.
-    pub(crate) fn end_epoch(
+    pub(crate) fn end_if_due(
         self,
         alloc: Global,
-        mut log: S::Log,
+        log: S::Log,
         total: u64,
     ) -> (Hosted<S>, S::Log, u64, bool, Result<(), Fault>)
-        requires ending { S.ending self.server ≡ true }
-        requires drained { IsDrained (S.standing self.server).events }
-        requires runs { self.stopped ≡ false }
         requires running { S.failed log ≡ false }
         requires kept { ∥ IsKept (S.keeps log) (first_stage (S.standing self.first.value)) false total self.entries.items ∥₁ }
         ensures grows { GrowsBy LOG_SEAT self.entries.items result.0.entries.items }
@@ -270,73 +268,15 @@ impl<S: EpochServer> Hosted<S> {
         ensures running { S.failed result.1 ≡ result.3 }
         ensures more { total ≤ result.2 }
     {
-        let mut hosted = self;
-        let batch = hosted.take(alloc);
-        if let Err(fault) = S::write(&mut log, alloc, batch) {
-            hosted.stop();
-            return (hosted, log, total, true, Err(fault));
+        if self.can_end() {
+            let due = DueEpoch {
+                hosted: self,
+                log,
+                total,
+            };
+            return due.end(alloc);
         }
-        let commits = hosted.commits;
-        let (mut hosted, log, begun) = hosted.turned(log, alloc);
-        let failed = S::has_failed(&log);
-        hosted.stop_if(failed);
-        (hosted, log, commits, failed, begun)
-    }
-
-    /// Ends the epoch, of which the log keeps all commits, and begins the next one.
-    ///
-    /// # Errors
-    /// The epoch goes on. The log keeps what it kept; it may have failed.
-    pub(crate) fn turned(self, log: S::Log, alloc: Global) -> (Hosted<S>, S::Log, Result<(), Fault>)
-        requires drained { IsDrained (S.standing self.server).events }
-        requires waits { ∥ S.waits self.server (S.standing self.server).events ∥₁ }
-        requires kept { ∥ S.keeps log (S.standing self.server).store (S.standing self.server).events (commit_count (S.standing self.server).events) ∥₁ }
-        requires running { S.failed log ≡ false }
-        requires runs { self.stopped ≡ false }
-        requires taken { taken_of self.entries.items ≡ self.entries.items }
-        ensures grows { GrowsBy LOG_SEAT self.entries.items result.0.entries.items }
-        ensures first { result.0.first ≡ self.first }
-        ensures same { result.0.commits ≡ self.commits }
-        ensures kept { ∥ IsKept (S.keeps result.1) (first_stage (S.standing self.first.value)) false self.commits result.0.entries.items ∥₁ }
-        ensures running { OnOk result.2 (S.failed result.1 ≡ false) }
-    {
-        let Hosted {
-            server,
-            mut entries,
-            first,
-            notices,
-            past,
-            commits,
-            stopped,
-        } = self;
-        let (server, log, begun) = server.next_epoch(log, alloc);
-        match begun {
-            Ok(()) => {
-                entries.push(LifeEntry::Turned);
-                let hosted = Hosted {
-                    server,
-                    entries,
-                    first,
-                    notices,
-                    past: commits,
-                    commits,
-                    stopped,
-                };
-                (hosted, log, Ok(()))
-            }
-            Err(fault) => {
-                let hosted = Hosted {
-                    server,
-                    entries,
-                    first,
-                    notices,
-                    past,
-                    commits,
-                    stopped,
-                };
-                (hosted, log, Err(fault))
-            }
-        }
+        (self, log, total, false, Ok(()))
     }
 
     /// Takes the server out, with the life. It first writes what waits, unless the log has failed. The log keeps the first `total` commits.
@@ -345,15 +285,14 @@ impl<S: EpochServer> Hosted<S> {
         alloc: Global,
         mut log: S::Log,
         total: u64,
-        failed: bool,
     ) -> (S, S::Log, Trace<LifeEntry>)
-        requires kept { ∥ IsKept (S.keeps log) (first_stage (S.standing self.first.value)) failed total self.entries.items ∥₁ }
-        requires running { S.failed log ≡ failed }
+        requires kept { ∥ IsKept (S.keeps log) (first_stage (S.standing self.first.value)) (S.failed log) total self.entries.items ∥₁ }
         ensures life { LeadsToServer (first_stage (S.standing self.first.value)) (S.standing result.0) result.2.items }
         ensures more { AddsNoCalls self.entries.items result.2.items }
         ensures kept { IsKeptAfter (S.keeps result.1) (first_stage (S.standing self.first.value)) (S.failed result.1) total result.2.items }
         ensures all { S.failed result.1 ≡ false → taken_of result.2.items ≡ result.2.items }
     {
+        let failed = S::has_failed(&log);
         if failed {
             let Hosted {
                 server,
@@ -411,13 +350,13 @@ fn short_of(reply: &Reply) -> Option<ShortReply>
     ShortReply::of(reply)
 }
 
-/// How many commits there are with this reply.
-fn counted(commits: u64, reply: &Reply) -> u64
-    requires { commits < u64.MAX }
-    ensures { result ≡ commits + commits_in reply.now }
+/// How many commits the reply is.
+fn commits_of(reply: &Reply) -> u64
+    ensures is { result ≡ commits_in reply.now }
+    ensures few { result ≤ 1 }
 {
     match *reply {
-        Reply::Committed => commits + 1,
-        _ => commits,
+        Reply::Committed => 1,
+        _ => 0,
     }
 }

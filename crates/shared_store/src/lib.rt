@@ -35,9 +35,10 @@
 //! store. It exists in proofs alone ([`Trace`]). The answered calls of each session are in it once, in the order in which it made them, each
 //! with the reply of the rules at its place. An epoch ends only if no transaction is unfinished and each session was told of its abort, and
 //! the next one begins with the rows that it left. In an epoch that is to end no transaction begins (`Hosted::ask`, clause `open`), so a Begin
-//! is asked only if fewer than 8,192 have begun in its epoch; only a Begin is answered `Later`. A session is answered Committed only if the log has told it that it keeps at least as many
-//! commits as the life has up to this one, and the log keeps as many as it tells (`IsKept`): a crash leaves them. Nothing is asked after the
-//! log has failed. [`Store::close`] returns a server to which the life leads, and a log that keeps all of it, unless it has failed.
+//! is asked only if fewer than 8,192 have begun in its epoch; only a Begin is answered `Later`. A session is answered Committed only if the
+//! log has told it that it keeps at least as many commits as the life has up to this one, and the log keeps as many as it tells (`IsKept`): a
+//! crash leaves them. Nothing is asked after the log has failed. [`Store::close`] returns a server to which the life leads, and a log that
+//! keeps all of it, unless it has failed.
 //!
 //! Threads may share a store, and a session may go to another thread, if the server and the log may (`embedded_shared` is an example).
 //!
@@ -49,6 +50,7 @@ mod answer;
 mod ask;
 mod asking;
 mod close;
+mod due_epoch;
 mod entry;
 mod error;
 mod first;

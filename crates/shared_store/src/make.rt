@@ -1,6 +1,6 @@
 //! How a store is made, with its sessions.
 
-ghost use Rattle.std.specs.Prelude.{◌≡◌, ◌≤◌, [], false, All, map, IfOk, IfErr, Some, vec_capacity};
+ghost use Rattle.std.specs.Prelude.{◌≡◌, ◌≤◌, [], false, All, map, IfOk, IfErr, vec_capacity};
 ghost use Rattle.teb_history.specs.Phases.{numbers};
 ghost use Rattle.turn_lock.specs.Views.{first_view, remaining};
 ghost use Rattle.turn_lock.specs.Seats.{base_in, view_of, IsOf, IsOutside};

@@ -1,12 +1,7 @@
 //! How the log takes what waits at the front, and writes it.
 
-ghost use Rattle.std.specs.Prelude.{◌≡◌, ◌<◌, ◌≤◌, [], ◌∷◌, false, Some};
-ghost use Rattle.turn_lock.specs.Seats.{base_in, view_of, IsOf, IsOutside};
-ghost use Rattle.shared_store.specs.declared.entry.TheConstants.{LOG_SEAT};
-ghost use Rattle.shared_store.specs.Gaining.{LogTurn};
-ghost use Rattle.shared_store.specs.Hosting.{first_of};
-ghost use Rattle.shared_store.specs.Seated.{IsKeptAt};
-ghost use Rattle.shared_store.specs.Keeping.{place_of, tells_in};
+ghost use Rattle.std.specs.Prelude.{◌≡◌};
+ghost use Rattle.shared_store.specs.Keeping.{place_of, tells_in, IsLogOf};
 ghost use Rattle.shared_store.specs.Totals.{TellsBy};
 
 use crate::error::Fault;
@@ -18,7 +13,7 @@ use crate::taking::{stop_front, take_batch};
 use std::alloc::Global;
 use std::sync::Wait;
 use teb_names::Session;
-use turn_lock::{SeatOf, Turn};
+use turn_lock::Turn;
 
 impl<S: EpochServer> Keeper<S> {
     /// Sees to it that the log keeps the first `number` commits of the life: unless it does, it takes all commits that wait at the front, and
@@ -32,8 +27,7 @@ impl<S: EpochServer> Keeper<S> {
         by: Session,
         number: u64,
     ) -> Keeper<S>
-        requires seat { IsOf turn.now self.seat }
-        requires base { (view_of self.seat).base ≡ Some (base_in first_of turn.now) }
+        requires seat { IsLogOf turn.now self }
         ensures place { place_of result ≡ place_of self }
         ensures tells { TellsBy by.0 (tells_in self) (tells_in result) }
     {
@@ -90,8 +84,7 @@ impl<S: EpochServer> Keeper<S> {
         turn: &Turn<Hosted<S>>,
         by: Session,
     ) -> (Keeper<S>, Result<(), Fault>)
-        requires seat { IsOf turn.now self.seat }
-        requires base { (view_of self.seat).base ≡ Some (base_in first_of turn.now) }
+        requires seat { IsLogOf turn.now self }
         ensures place { place_of result.0 ≡ place_of self }
         ensures tells { TellsBy by.0 (tells_in self) (tells_in result.0) }
     {
@@ -114,7 +107,9 @@ impl<S: EpochServer> Keeper<S> {
             };
             return (same, Err(Fault::Stopped));
         }
-        let (log, total, failed, ended) = end_at_front(rt, alloc, turn, &mut seat, log, total);
+        let hosted = turn.enter(rt, &mut seat);
+        let (hosted, log, total, failed, ended) = hosted.end_if_due(alloc, log, total);
+        turn.leave(&mut seat, hosted);
         entries.push(Kept { by, total });
         let keeper = Keeper {
             log,
@@ -126,35 +121,4 @@ impl<S: EpochServer> Keeper<S> {
         };
         (keeper, ended)
     }
-}
-
-/// Enters with the log's seat, ends the epoch if it can be ended, and leaves. It returns how many commits the log keeps then, and whether it
-/// has failed.
-fn end_at_front<S: EpochServer, R: Wait>(
-    rt: &R,
-    alloc: Global,
-    turn: &Turn<Hosted<S>>,
-    seat: &mut SeatOf<Hosted<S>>,
-    log: S::Log,
-    total: u64,
-) -> (S::Log, u64, bool, Result<(), Fault>)
-    requires seat { IsOf turn.now seat.old × IsOutside seat.old }
-    requires turns { 0 < (view_of seat.old).turns }
-    requires owner { (view_of seat.old).owners ≡ LOG_SEAT ∷ [] }
-    requires running { S.failed log ≡ false }
-    requires kept { IsKeptAt (S.keeps log) false total (view_of seat.old) }
-    ensures seat { IsOf turn.now seat.new × IsOutside seat.new }
-    ensures turn { LogTurn (view_of seat.old) (view_of seat.new) }
-    ensures running { S.failed result.0 ≡ result.2 }
-    ensures kept { IsKeptAt (S.keeps result.0) result.2 result.1 (view_of seat.new) }
-    ensures more { total ≤ result.1 }
-{
-    let hosted = turn.enter(rt, seat);
-    if !hosted.can_end() {
-        turn.leave(seat, hosted);
-        return (log, total, false, Ok(()));
-    }
-    let (hosted, log, total, failed, ended) = hosted.end_epoch(alloc, log, total);
-    turn.leave(seat, hosted);
-    (log, total, failed, ended)
 }

@@ -8,7 +8,7 @@ returns-clause-none g c =
     let x = c.enter-hosted.result in
     let y = c.stop.new.self in
     takes_none c.args.seat.now.seat.me.0 c.enter-hosted.new.seat.seat.me.0 x y c.leave.new.seat.seat.me.0 record {
-      owner = c.requires.owner;
+      owner = c.requires.log.owner;
       follows = c.enter-hosted.ensures.follows;
       enters = c.enter-hosted.ensures.enters;
       grows = mark_grows Stopped x.entries.items y.entries.items refl c.stop.ensures.entries;

@@ -1,4 +1,4 @@
-use Rattle.std.proofs.Common.{refl, subst}
+use Rattle.std.proofs.Common.{refl, sym, subst, ◌∙◌}
 use Rattle.shared_store.specs.Holding.{stage_of}
 use Rattle.shared_store.specs.Lives.{LeadsTo}
 use Rattle.shared_store.specs.Stages.{first_stage}
@@ -15,7 +15,7 @@ returns-then-failed-clause-more g c = no_calls c.args.self.entries.items
 
 pub returns-then-failed-clause-kept : goal.returns-then-failed-clause-kept
 returns-then-failed-clause-kept g c = kept_failed (g.S.EpochServer.keeps c.args.log) (first_stage (g.S.EpochServer.standing c.args.self.first.value)) c.args.total c.args.self.entries.items
-    (g.S.EpochServer.failed c.args.log) c.args.failed c.requires.running c.requires.kept
+    (g.S.EpochServer.failed c.args.log) (g.S.EpochServer.failed c.args.log) refl c.requires.kept
 
 pub returns-clause-life : goal.returns-clause-life
 returns-clause-life g c =
@@ -31,8 +31,8 @@ returns-clause-kept g c =
     let mid = c.take-batch.new.self in
     kept_either (g.S.EpochServer.keeps c.args.log) (g.S.EpochServer.keeps c.write-written.new.log) (g.S.EpochServer.brings c.take-batch.result)
     (first_stage (g.S.EpochServer.standing c.args.self.first.value)) c.args.total mid.commits c.args.self.entries.items mid.entries.items
-    c.args.failed c.if-failed.false c.requires.kept c.take-batch.ensures.brought (g.S.EpochServer.failed c.write-written.new.log) c.write-written.result c.write-written.ensures.kept
-    c.write-written.ensures.not_kept
+    (g.S.EpochServer.failed c.args.log) (sym c.has_failed-failed.ensures ∙ c.if-failed.false) c.requires.kept c.take-batch.ensures.brought
+    (g.S.EpochServer.failed c.write-written.new.log) c.write-written.result c.write-written.ensures.kept c.write-written.ensures.not_kept
 
 pub returns-clause-all : goal.returns-clause-all
 returns-clause-all g c =

@@ -21,7 +21,7 @@ invariant_of-result-in-Err g c =
       seated = log_seat_on_two old.turns (old.turns - 2) v w x enough t.turn c.stop_front.ensures.turn old.seated;
       told = old.told;
       running = runs_at_err keep then_keep brings old.total c.take_batch-batch.result.1 v w t.turn.base k t.batch (g.S.EpochServer.failed c.write.new.log) c.write.result c.in-Err._fault c.in-Err.is
-          c.write.ensures.not_kept (base_in first_of c.args.turn.now) c.requires.base;
+          c.write.ensures.not_kept (base_in first_of c.args.turn.now) c.requires.seat.1;
       kept = kept_at_err keep then_keep brings old.total c.take_batch-batch.result.1 v w t.turn.base k t.batch (g.S.EpochServer.failed c.write.new.log) c.write.result c.in-Err._fault c.in-Err.is
           c.write.ensures.not_kept x c.stop_front.ensures.turn.base c.stop_front.ensures.none;
     }
@@ -43,9 +43,9 @@ invariant_of-result-2 g c =
       outside = t.seat.1;
       seated = log_seat_on old.turns (old.turns - 1) v w enough t.turn old.seated;
       told = total_now old.entries.items c.push.new.self.items (record { by = c.args.by; total = commits }) old.total c.push.ensures old.told
-          (less_at keep then_keep brings old.total commits v w t.turn.base k t.batch (g.S.EpochServer.failed c.write.new.log) c.write.result b c.requires.base);
+          (less_at keep then_keep brings old.total commits v w t.turn.base k t.batch (g.S.EpochServer.failed c.write.new.log) c.write.result b c.requires.seat.1);
       running = runs_at_ok keep then_keep brings old.total commits v w t.turn.base k t.batch (g.S.EpochServer.failed c.write.new.log) c.write.result c.in_default.field-0 c.in_default.is
-          c.write.ensures.kept b c.requires.base;
+          c.write.ensures.kept b c.requires.seat.1;
       kept = kept_at_ok keep then_keep brings old.total commits v w t.turn.base k t.batch (g.S.EpochServer.failed c.write.new.log) c.write.result c.in_default.field-0 c.in_default.is
           c.write.ensures.kept;
     }

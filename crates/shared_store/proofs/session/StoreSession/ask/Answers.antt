@@ -1,4 +1,4 @@
-use Rattle.std.proofs.Common.{Err, refl, ap, ◌∙◌}
+use Rattle.std.proofs.Common.{Err, ap, ◌∙◌}
 use Rattle.teb_names.specs.declared.Reply.TheVariants.{Committed}
 use Rattle.turn_lock.specs.Seats.{view_of}
 use Rattle.shared_store.specs.declared.error.Failure.{Failure}
@@ -12,30 +12,31 @@ returns-in-Ok-clause-answered g c =
     let old = c.args.self.now in
     let b = base_of c.args.store.now in
     let t = c.ask_through-answer.ensures in
-    λ r e. answered b old _ refl refl c.requires.session.1 2 t.turn c.args.request r
-    (gains_call b old.session c.args.request (view_of old.seat) (view_of c.ask_through-answer.new.seat) c.ask_through-answer.result c.in-Ok.reply r c.in-Ok.is e t.gains)
+    λ r e. answered b old c.ask_through-answer.new.self t.same.1 t.same.0 c.requires.session.1 2 t.turn c.args.request r
+    (gains_call b old.session c.args.request (view_of old.seat) (view_of c.ask_through-answer.new.self.seat) c.ask_through-answer.result c.in-Ok.reply r c.in-Ok.is e t.gains)
 
 pub returns-in-Ok-clause-kept : goal.returns-in-Ok-clause-kept
 returns-in-Ok-clause-kept g c =
     let b = base_of c.args.store.now in
     let t = c.ask_through-answer.ensures in
-    λ e. safe b _ (safe_commit (SafeAt b (view_of c.ask_through-answer.new.seat).seen (view_of c.ask_through-answer.new.log_seat).seen) c.ask_through-answer.result c.in-Ok.reply c.in-Ok.is e t.safe)
+    let new = c.ask_through-answer.new.self in
+    λ e. safe b _ (safe_commit (SafeAt b (view_of new.seat).seen (view_of new.log_seat).seen) c.ask_through-answer.result c.in-Ok.reply c.in-Ok.is e t.safe)
 
 pub returns-in-Ok-clause-put_off : goal.returns-in-Ok-clause-put_off
 returns-in-Ok-clause-put_off g c =
     let old = c.args.self.now in
     let b = base_of c.args.store.now in
     let t = c.ask_through-answer.ensures in
-    λ n. unasked b old _ refl refl c.requires.session.1 2 t.turn
-    (gains_put_off b old.session c.args.request (view_of old.seat) (view_of c.ask_through-answer.new.seat) c.ask_through-answer.result c.in-Ok.reply c.in-Ok.is n t.gains)
+    λ n. unasked b old c.ask_through-answer.new.self t.same.1 t.same.0 c.requires.session.1 2 t.turn
+    (gains_put_off b old.session c.args.request (view_of old.seat) (view_of c.ask_through-answer.new.self.seat) c.ask_through-answer.result c.in-Ok.reply c.in-Ok.is n t.gains)
 
 pub returns-in-Unsure-clause-unsure : goal.returns-in-Unsure-clause-unsure
 returns-in-Unsure-clause-unsure g c =
     let old = c.args.self.now in
     let b = base_of c.args.store.now in
     let t = c.ask_through-answer.ensures in
-    λ _. answered b old _ refl refl c.requires.session.1 2 t.turn c.args.request Committed
-    (gains_unsure b old.session c.args.request (view_of old.seat) (view_of c.ask_through-answer.new.seat) c.ask_through-answer.result (c.in-Err.is ∙ ap (λ (f : Failure). Err f) c.in-Unsure.is)
+    λ _. answered b old c.ask_through-answer.new.self t.same.1 t.same.0 c.requires.session.1 2 t.turn c.args.request Committed
+    (gains_unsure b old.session c.args.request (view_of old.seat) (view_of c.ask_through-answer.new.self.seat) c.ask_through-answer.result (c.in-Err.is ∙ ap (λ (f : Failure). Err f) c.in-Unsure.is)
     t.gains)
 
 pub returns-in-Unasked-clause-unasked : goal.returns-in-Unasked-clause-unasked
@@ -43,6 +44,6 @@ returns-in-Unasked-clause-unasked g c =
     let old = c.args.self.now in
     let b = base_of c.args.store.now in
     let t = c.ask_through-answer.ensures in
-    λ _ _. unasked b old _ refl refl c.requires.session.1 2 t.turn
-    (gains_unasked b old.session c.args.request (view_of old.seat) (view_of c.ask_through-answer.new.seat) c.ask_through-answer.result c.in-Unasked.fault
+    λ _ _. unasked b old c.ask_through-answer.new.self t.same.1 t.same.0 c.requires.session.1 2 t.turn
+    (gains_unasked b old.session c.args.request (view_of old.seat) (view_of c.ask_through-answer.new.self.seat) c.ask_through-answer.result c.in-Unasked.fault
     (c.in-Err.is ∙ ap (λ (f : Failure). Err f) c.in-Unasked.is) t.gains)

@@ -67,14 +67,18 @@ end-requires-clause-all g c =
     (all_of c.loop-session.seat given c.join-2.new.seat c.join-2.ensures.view (ap (λ s. (view_of s).owners) c.into_parts-log.ensures.1 ∙ c.end-keeper.result.seated.owner)
     (all_in front_ghosts c.args.self.turn front_seat (λ p. p.knows.owner) (λ p. p.outside) c.args.sessions.items c.loop-session.sessions.items c.loop-session.seat none c.loop-session.invariant.0))
 
-pub finish-requires-clause-kept : goal.finish-requires-clause-kept
-finish-requires-clause-kept g c =
+pub finish-requires : goal.finish-requires
+finish-requires g c =
     let keeper = c.end-keeper.result in
     let given = c.into_parts-log.result.1 in
     let x = c.end.result in
-    subst (λ l. ∥ IsKept (g.S.EpochServer.keeps l) (first_of x) keeper.failed keeper.total x.entries.items ∥₁) (sym c.into_parts-log.ensures.0)
-    (kept_at_end c.loop-session.seat given c.join-2.new.seat c.join-2.ensures.view x c.end.ensures.ends (g.S.EpochServer.keeps keeper.log) keeper.failed keeper.total (view_of keeper.seat)
-    (ap view_of c.into_parts-log.ensures.1) keeper.seated.owner keeper.kept)
+    let keeps : ∥ IsKept (g.S.EpochServer.keeps keeper.log) (first_of x) keeper.failed keeper.total x.entries.items ∥₁ =
+    kept_at_end c.loop-session.seat given c.join-2.new.seat c.join-2.ensures.view x c.end.ensures.ends (g.S.EpochServer.keeps keeper.log) keeper.failed keeper.total (view_of keeper.seat)
+    (ap view_of c.into_parts-log.ensures.1) keeper.seated.owner keeper.kept in
+    record {
+      kept = subst (λ l. ∥ IsKept (g.S.EpochServer.keeps l) (first_of x) (g.S.EpochServer.failed l) keeper.total x.entries.items ∥₁) (sym c.into_parts-log.ensures.0)
+          (subst (λ f. ∥ IsKept (g.S.EpochServer.keeps keeper.log) (first_of x) f keeper.total x.entries.items ∥₁) (sym keeper.running) keeps);
+    }
 
 pub returns-clause-owners : goal.returns-clause-owners
 returns-clause-owners g c = owned_all c.end.result.entries.items c.finish.result.2.items c.finish.ensures.more

@@ -1,47 +1,47 @@
 use Rattle.shared_store.specs.Stages.{first_stage}
 use Rattle.shared_store.proofs.Living.{kept_on, kept_turned, life_same, life_turned, waiting_on, waiting_turned}
 use Rattle.shared_store.proofs.Results.{on_err, on_ok}
-use Rattle.shared_store.proofs.hosted.Hosted.turned.Goals as goal
+use Rattle.shared_store.proofs.due_epoch.WrittenEpoch.turned.Goals as goal
 
 pub invariant_of-hosted : goal.invariant_of-hosted
 invariant_of-hosted g c =
-    let old = c.args.self in
+    let old = c.args.self.hosted in
     let first = first_stage (g.S.EpochServer.standing old.first.value) in
     let x = g.S.EpochServer.standing old.server in
     let y = g.S.EpochServer.standing c.next_epoch-server.result.0 in
     let b = on_ok _ c.next_epoch-server.result.2 c.in-Ok.field-0 c.in-Ok.is c.next_epoch-server.ensures.begun in
     record {
-      life = life_turned first x y old.past old.commits old.stopped old.entries.items c.push.new.self.items old.life c.requires.runs b.0 c.push.ensures;
-      waiting = waiting_turned first x y old.past old.commits old.stopped old.entries.items c.push.new.self.items old.life c.requires.runs b.0 c.push.ensures
+      life = life_turned first x y old.past old.commits old.stopped old.entries.items c.push.new.self.items old.life c.args.self.runs b.0 c.push.ensures;
+      waiting = waiting_turned first x y old.past old.commits old.stopped old.entries.items c.push.new.self.items old.life c.args.self.runs b.0 c.push.ensures
           (g.S.EpochServer.waits c.next_epoch-server.result.0) b.1;
     }
 
 pub invariant_of-hosted-in-Err : goal.invariant_of-hosted-in-Err
 invariant_of-hosted-in-Err g c =
-    let old = c.args.self in
+    let old = c.args.self.hosted in
     let first = first_stage (g.S.EpochServer.standing old.first.value) in
     let x = g.S.EpochServer.standing old.server in
     let y = g.S.EpochServer.standing c.next_epoch-server.result.0 in
     let b = on_err _ c.next_epoch-server.result.2 c.in-Err.fault c.in-Err.is c.next_epoch-server.ensures.same in
     record {
       life = life_same first x y old.past old.stopped old.commits old.entries.items old.life b.0;
-      waiting = waiting_on first x y old.past old.commits old.stopped old.entries.items old.life b.0 c.requires.taken (g.S.EpochServer.waits c.next_epoch-server.result.0) b.1;
+      waiting = waiting_on first x y old.past old.commits old.stopped old.entries.items old.life b.0 c.args.self.taken (g.S.EpochServer.waits c.next_epoch-server.result.0) b.1;
     }
 
 pub returns-in-Ok-clause-kept : goal.returns-in-Ok-clause-kept
 returns-in-Ok-clause-kept g c =
-    let old = c.args.self in
+    let old = c.args.self.hosted in
     let first = first_stage (g.S.EpochServer.standing old.first.value) in
     let x = g.S.EpochServer.standing old.server in
     let y = g.S.EpochServer.standing c.next_epoch-server.result.0 in
     let b = on_ok _ c.next_epoch-server.result.2 c.in-Ok.field-0 c.in-Ok.is c.next_epoch-server.ensures.begun in
-    kept_turned first x y old.past old.commits old.stopped old.entries.items c.push.new.self.items old.life c.requires.runs b.0 c.push.ensures (g.S.EpochServer.keeps c.next_epoch-server.result.1) b.2
+    kept_turned first x y old.past old.commits old.stopped old.entries.items c.push.new.self.items old.life c.args.self.runs b.0 c.push.ensures (g.S.EpochServer.keeps c.next_epoch-server.result.1) b.2
 
 pub returns-in-Err-clause-kept : goal.returns-in-Err-clause-kept
 returns-in-Err-clause-kept g c =
-    let old = c.args.self in
+    let old = c.args.self.hosted in
     let first = first_stage (g.S.EpochServer.standing old.first.value) in
     let x = g.S.EpochServer.standing old.server in
     let y = g.S.EpochServer.standing c.next_epoch-server.result.0 in
     let b = on_err _ c.next_epoch-server.result.2 c.in-Err.fault c.in-Err.is c.next_epoch-server.ensures.same in
-    kept_on first x y old.past old.commits old.stopped old.entries.items old.life b.0 c.requires.taken (g.S.EpochServer.keeps c.next_epoch-server.result.1) b.2
+    kept_on first x y old.past old.commits old.stopped old.entries.items old.life b.0 c.args.self.taken (g.S.EpochServer.keeps c.next_epoch-server.result.1) b.2

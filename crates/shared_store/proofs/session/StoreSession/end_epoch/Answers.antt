@@ -1,11 +1,11 @@
 use Rattle.turn_lock.specs.Seats.{view_of}
 use Rattle.shared_store.proofs.Settling.{takes_log}
-use Rattle.shared_store.proofs.asking.end_epoch.Goals as goal
+use Rattle.shared_store.proofs.session.StoreSession.end_epoch.Goals as goal
 
 pub returns-clause-turn : goal.returns-clause-turn
 returns-clause-turn g c =
-    takes_log c.args.session.0 (view_of c.args.log_seat.now) (view_of c.enter-keeper.new.seat) c.enter-keeper.result c.end_epoch-keeper.result.0 (view_of c.leave.new.seat) record {
-      owner = c.requires.owner;
+    takes_log c.args.self.now.session.0 (view_of c.args.self.now.log_seat) (view_of c.enter-keeper.new.seat) c.enter-keeper.result c.end_epoch-keeper.result.0 (view_of c.leave.new.seat) record {
+      owner = c.args.self.now.knows_log.owner;
       follows = c.enter-keeper.ensures.follows;
       enters = c.enter-keeper.ensures.enters;
       tells = c.end_epoch-keeper.ensures.tells;
