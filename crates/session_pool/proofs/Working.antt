@@ -1,5 +1,5 @@
 -- Workers, as they take sessions, and what is left when they go.
-use Rattle.std.proofs.Common.{◌≡◌, ℕ, zero, suc, ◌+◌, ◌<◌, ◌≤◌, false, List, [], ◌∷◌, ◌++◌, Option, Result, Ok, Err, IfOk, All, Vec, length, map, get_or, set, take, vec_capacity, refl, sym, ap, ◌∙◌, subst, arith}
+use Rattle.std.proofs.Common.{◌≡◌, ℕ, zero, suc, ◌+◌, ◌<◌, ◌≤◌, false, List, [], ◌∷◌, ◌++◌, Option, Result, Ok, Err, IfOk, All, Vec, length, map, get_or, set, take, vec_len, vec_capacity, refl, sym, ap, ◌∙◌, subst, arith}
 use Rattle.std.specs.declared.alloc.Global.{Global}
 use Rattle.std.specs.declared.alloc.AllocError.{AllocError}
 use Rattle.std.proofs.lemmas.List.{map-append, length-map}
@@ -23,9 +23,9 @@ use Rattle.session_tasks.specs.declared.task.Task.{Task}
 use Rattle.session_pool.specs.Rising.{Rising}
 use Rattle.session_pool.specs.Tallies.{tally, after_pop, merged, IsWhole}
 use Rattle.session_pool.specs.HandedOut.{IsTaken, IsRest}
-use Rattle.session_pool.specs.Hands.{taken_in, weight_of, AreHands, AreCollected}
-use Rattle.session_pool.specs.Suits.{Suits}
-use Rattle.session_pool.specs.Waits.{IsUnused, number_at, scripted, tells_of}
+use Rattle.session_pool.specs.Hands.{taken_in, weight_of, AreHands, AreCollected, IsFirst}
+use Rattle.session_pool.specs.Suits.{Suits, IsRosterOf}
+use Rattle.session_pool.specs.Waits.{IsUnused, IsWaiting, number_at, scripted, tells_of}
 use Rattle.session_pool.specs.Workers.{HasToken, IsHired, IsAtWork}
 use Rattle.session_pool.specs.declared.tally.Tally.{Tally}
 use Rattle.session_pool.specs.declared.waiting.Waiting.{Waiting}
@@ -93,10 +93,10 @@ module _ {C : Type 0} {g : Ghosts C} where
     shared = λ weight. none_weigh weight hands none ∙ sym (ap (total weight) empty);
   }
 
-  pub no_hands_yet : (h : Hall C g) (scripts : Scripted) (workers : ℕ) (numbers : List ℕ) (r : Result (Vec (Vec (Task C g) Global) Global) AllocError) → IfOk r (λ v. length v.items ≡ workers)
+  pub no_hands_yet : (h : Hall C g) (scripts : Scripted) (n workers : ℕ) (numbers : List ℕ) (r : Result (Vec (Vec (Task C g) Global) Global) AllocError) → n ≡ workers → IfOk r (λ v. vec_len v ≡ n)
       → IfOk r (λ v. All (λ (u : Vec (Task C g) Global). u.items ≡ []) v.items) → numbers ≡ [] → IfOk r (λ v. AreHands h scripts workers numbers v.items)
-  no_hands_yet h scripts workers numbers (Ok v) count none empty = no_hands h scripts workers numbers v.items count none empty
-  no_hands_yet h scripts workers numbers (Err w) count none empty = tt
+  no_hands_yet h scripts n workers numbers (Ok v) same count none empty = no_hands h scripts workers numbers v.items (let z = v.ok.0 in omega arith) none empty
+  no_hands_yet h scripts n workers numbers (Err w) same count none empty = tt
 
 module _ {C : Type 0} {g : Ghosts C} (h : Hall C g) (scripts : Scripted) where
   taken_on : (u v : Vec (Task C g) Global) (t : Task C g) (n : ℕ) → v.items ≡ u.items ++ t ∷ [] → number_in t ≡ n → taken_in v ≡ taken_in u ++ n ∷ []
@@ -187,15 +187,8 @@ module _ {C : Type 0} {g : Ghosts C} (h : Hall C g) (scripts : Scripted) where
       none [] e = refl
       none (x ∷ xs) e = absurd (omega arith)
 
-  -- the first hand, before and after it got what was left
-  pub record IsFirst (u : Vec (Task C g) Global) (v : Tally) : Type 0 where
-    pub tasks : All (IsTask h scripts) u.items
-    pub rising : Rising 0 (taken_in u)
-    pub within : (weight : ℕ → ℕ) → total weight (taken_in u) ≤ total weight v.taken
-    pub room : vec_capacity u ≡ SESSIONS
-
   pub first_hand : (workers pushed : ℕ) (v : Tally) (hands : List (Vec (Task C g) Global)) (u : Vec (Task C g) Global) → AreCollected h scripts workers pushed v hands → 0 < length hands
-      → u ≡ get_or hands 0 u → IsFirst u v
+      → u ≡ get_or hands 0 u → IsFirst h scripts u v
   first_hand workers pushed v hands u a some_ is = record {
     tasks = subst (λ (w : Vec (Task C g) Global). All (IsTask h scripts) w.items) (sym is) (a.tasks 0 u some_);
     rising = subst (λ (w : Vec (Task C g) Global). Rising 0 (taken_in w)) (sym is) (a.rising 0 u some_);
@@ -223,9 +216,18 @@ module _ {C : Type 0} {g : Ghosts C} (h : Hall C g) (numbers : List ℕ) (told :
 
 -- those that wait suit their own hall
 module _ {C : Type 0} {g : Ghosts C} (h : Hall C g) (ws : List (Waiting C g)) where
-  pub waiting_suit : (scripts : Scripted) → map number_at ws ≡ scripted scripts → Suits h (map number_at ws) (tells_of h)
+  waiting_suit : (scripts : Scripted) → map number_at ws ≡ scripted scripts → Suits h (map number_at ws) (tells_of h)
   waiting_suit scripts is = record {
     few = subst (λ (ns : List ℕ). length ns ≤ SESSIONS) (sym is) (scripted_few scripts);
     rising = subst (Rising 0) (sym is) (scripted_rises scripts);
     tells = λ table base t. t;
+  }
+
+  pub waiting_roster : (scripts : Scripted) → map number_at ws ≡ scripted scripts → All (IsWaiting h) ws → IsRosterOf h ws (map number_at ws) (tells_of h)
+  waiting_roster scripts is fit = record {
+    suits = waiting_suit scripts is;
+    these = record {
+      numbers = refl;
+      unused = λ k d l. let w = fit k d l in record { place = (w.new.seat, w.new.base); seen = w.new.seen; asks = w.new.asks; session = w.session };
+    };
   }

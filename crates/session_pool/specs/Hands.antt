@@ -1,5 +1,5 @@
 -- What lies in the hands of the workers.
-use Rattle.std.specs.Prelude.{◌≡◌, ℕ, List, All, length, map, Vec, vec_capacity}
+use Rattle.std.specs.Prelude.{◌≡◌, ℕ, ◌≤◌, List, All, length, map, Vec, vec_capacity}
 use Rattle.std.specs.declared.alloc.Global.{Global}
 use Rattle.turn_lock.specs.Counts.{total}
 use Rattle.session_server.specs.Halls.{Ghosts, Hall}
@@ -35,3 +35,10 @@ module _ {C : Type 0} {g : Ghosts C} where
     pub room : All (λ hand. vec_capacity hand ≡ SESSIONS) hands
     pub whole : IsWhole pushed v
     pub shared : (weight : ℕ → ℕ) → weight_of weight hands ≡ total weight v.taken
+
+  -- a hand with tasks that rise and room for all. A token of this tally knows all that is in it
+  pub record IsFirst (h : Hall C g) (scripts : Scripted) (u : Vec (Task C g) Global) (v : Tally) : Type 0 where
+    pub tasks : All (IsTask h scripts) u.items
+    pub rising : Rising 0 (taken_in u)
+    pub within : (weight : ℕ → ℕ) → total weight (taken_in u) ≤ total weight v.taken
+    pub room : vec_capacity u ≡ SESSIONS

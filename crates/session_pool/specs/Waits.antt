@@ -1,5 +1,5 @@
 -- Which sessions wait in the queue.
-use Rattle.std.specs.Prelude.{◌≡◌, ℕ, List, [], Option, Some, filter}
+use Rattle.std.specs.Prelude.{◌≡◌, ℕ, List, [], Option, Some, All, filter, map}
 use Rattle.std.specs.Option.{is_some}
 use Rattle.teb_history.specs.Phases.{numbers}
 use Rattle.atomic_table.specs.Seated.{TableId}
@@ -27,6 +27,11 @@ module _ {C : Type 0} {g : Ghosts C} where
   pub record IsWaiting (h : Hall C g) (w : Waiting C g) : Type 0 where
     pub new : IsNew h w.pass
     pub session : w.pass.session ≡ w.session
+
+  -- they are the sessions with a script, in ascending order, each with its unused pass
+  pub record AreWaiting (h : Hall C g) (scripts : Scripted) (waiting : List (Waiting C g)) : Type 0 where
+    pub numbers : map number_at waiting ≡ scripted scripts
+    pub each : All (IsWaiting h) waiting
 
   -- which table and which base are the hall's
   abbrev pub tells_of : Hall C g → TableId → Option Fitted → Type 0

@@ -3,13 +3,12 @@
 ghost use Rattle.std.specs.Prelude.{◌≡◌, ℕ, ◌+◌, All, map, IfOk};
 ghost use Rattle.teb_history.specs.Phases.{numbers};
 ghost use Rattle.turn_lock.specs.Counts.{total};
-ghost use Rattle.session_server.specs.Passes.{IsNew, number_of};
 ghost use Rattle.session_tasks.specs.Tasks.{IsTask, number_in};
-ghost use Rattle.session_pool.specs.Waits.{IsWaiting, number_at, scripted};
+ghost use Rattle.session_pool.specs.Waits.{AreWaiting, scripted};
 
 use crate::waiting::Waiting;
 use session_server::{EngineServer, Pass, Server};
-use session_tasks::{Gate, Run, Task, place_in};
+use session_tasks::{Gate, Start, Task, place_in};
 use std::alloc::{AllocError, Global};
 use std::collections::VecDeque;
 use teb_names::SESSIONS;
@@ -29,17 +28,15 @@ where
 
 /// Divides the sessions into those with a script and those without.
 pub(crate) fn divide<C: Chains, G: Gate>(
-    run: &Run<'_, C, G>,
+    start: Start<'_, C, G>,
     alloc: Global,
-    mut passes: Vec<Pass<C>>,
 ) -> Result<Divided<C>, AllocError>
-    requires sessions { map number_of passes.items ≡ numbers SESSIONS }
-    requires new { All (IsNew run.now.hall.now) passes.items }
-    ensures waiting { IfOk result (λ d. map number_at d.waiting.items ≡ scripted run.now.scripts.now) }
-    ensures fitting { IfOk result (λ d. All (IsWaiting run.now.hall.now) d.waiting.items) }
-    ensures idle { IfOk result (λ d. All (IsTask run.now.hall.now run.now.scripts.now) d.idle.items) }
-    ensures all { IfOk result (λ d. (weight : ℕ → ℕ) → total weight (map number_in d.idle.items) + total weight (scripted run.now.scripts.now) ≡ total weight (numbers SESSIONS)) }
+    ensures waiting { IfOk result (λ d. AreWaiting start.entry.run.now.hall.now start.entry.run.now.scripts.now d.waiting.items) }
+    ensures idle { IfOk result (λ d. All (IsTask start.entry.run.now.hall.now start.entry.run.now.scripts.now) d.idle.items) }
+    ensures all { IfOk result (λ d. (weight : ℕ → ℕ) → total weight (map number_in d.idle.items) + total weight (scripted start.entry.run.now.scripts.now) ≡ total weight (numbers SESSIONS)) }
 {
+    let run = start.run;
+    let mut passes = start.passes;
     let mut waiting = VecDeque::with_capacity(alloc, usize::from(SESSIONS))?;
     let mut idle = Vec::with_capacity(alloc, usize::from(SESSIONS))?;
     while let Some(pass) = passes.pop() {

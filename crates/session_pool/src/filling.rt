@@ -1,9 +1,9 @@
 //! How the queue is filled.
 
-ghost use Rattle.std.specs.Prelude.{◌≡◌, [], true, All, map, length};
+ghost use Rattle.std.specs.Prelude.{◌≡◌, [], true, length};
 ghost use Rattle.crossbeam_queue.specs.Passes.{view, IsPassOf, ruled_capacity};
+ghost use Rattle.session_pool.specs.Suits.{AreOnRoster};
 ghost use Rattle.session_pool.specs.Tallies.{tally};
-ghost use Rattle.session_pool.specs.Waits.{IsUnused, number_at};
 
 use crate::queue::{Roster, SessionQueue, Token};
 use crate::steps::Put;
@@ -21,8 +21,7 @@ pub(crate) fn fill<C: Chains, J: Roster, R: Wait>(
 )
     requires token { IsPassOf line.now token.old × (view token.old ≡ tally 256 true 0 []) }
     requires room { ruled_capacity line.now ≡ length J.numbers }
-    requires numbers { map number_at waiting.items ≡ J.numbers }
-    requires unused { All (IsUnused J.hall) waiting.items }
+    requires roster { AreOnRoster waiting.items J.numbers J.hall }
     ensures token { IsPassOf line.now token.new × (view token.new ≡ tally 256 true (length J.numbers) []) }
 {
     while let Some(next) = waiting.pop_front() {

@@ -38,5 +38,6 @@ mod steps;
 mod tally;
 mod waiting;
 mod worker;
+mod worker_count;
 
 pub use run::{Pooled, run_pool};

@@ -1,16 +1,15 @@
 //! The tasks of all hands, in the order of their sessions.
 
-ghost use Rattle.std.specs.Prelude.{◌≡◌, ℕ, ◌++◌, All, map, IfOk, IfErr};
-ghost use Rattle.std.specs.List.{Contains, flat_map};
+ghost use Rattle.std.specs.Prelude.{◌≡◌, ℕ, ◌++◌, map, IfOk};
+ghost use Rattle.std.specs.List.{flat_map};
+ghost use Rattle.std.specs.List.Sorted.{IsPermutation};
 ghost use Rattle.teb_history.specs.Phases.{numbers};
 ghost use Rattle.turn_lock.specs.Counts.{total};
-ghost use Rattle.session_tasks.specs.Errors.{IsFirstError};
-ghost use Rattle.session_tasks.specs.Served.{IsCause};
-ghost use Rattle.session_tasks.specs.Tasks.{IsTask, AreTasks, number_in};
+ghost use Rattle.session_tasks.specs.Tasks.{number_in};
 ghost use Rattle.session_pool.specs.Hands.{taken_in};
 ghost use Rattle.session_pool.specs.Taken.{numbers_in};
 
-use session_tasks::{Gate, Progress, Run, RunError, Task};
+use session_tasks::Task;
 use std::alloc::{AllocError, Global};
 use std::collections::VecDeque;
 use teb_names::{SESSIONS, Session};
@@ -55,22 +54,12 @@ pub(crate) fn all_tasks<C: Chains>(
     Ok(tasks)
 }
 
-/// Returns the tasks of all sessions in order, or the error of the first session that met one.
-pub(crate) fn in_order<C: Chains, G: Gate>(
-    run: &Run<'_, C, G>,
-    mut tasks: Vec<Task<C>>,
-) -> Result<VecDeque<Task<C>>, RunError<C>>
-    requires tasks { All (IsTask run.now.hall.now run.now.scripts.now) tasks.items }
-    requires all { (weight : ℕ → ℕ) → total weight (map number_in tasks.items) ≡ total weight (numbers SESSIONS) }
-    ensures ok { IfOk result (λ v. AreTasks run.now.hall.now run.now.scripts.now (numbers SESSIONS) v.items) }
-    ensures cause { IfErr result (IsCause run.now.hall.now run.now.scripts.now) }
-    ensures first { IfErr result (IsFirstError (λ t. IsTask run.now.hall.now run.now.scripts.now t × Contains tasks.items t)) }
+/// Returns the tasks in the order of their sessions, each of which has one.
+pub(crate) fn in_order<C: Chains>(mut tasks: Vec<Task<C>>) -> Vec<Task<C>>
+    requires { (weight : ℕ → ℕ) → total weight (map number_in tasks.items) ≡ total weight (numbers SESSIONS) }
+    ensures sessions { map number_in result.items ≡ numbers SESSIONS }
+    ensures same { IsPermutation tasks.items result.items }
 {
     tasks.sort_unstable_by_key(|task| task.pass.session().0);
-    for i in 0..tasks.len() {
-        if let Progress::Failed(error) = tasks[i].progress {
-            return Err(run.fail(tasks.swap_remove(i), error));
-        }
-    }
-    Ok(VecDeque::from(tasks))
+    tasks
 }

@@ -1,10 +1,10 @@
 //! What the workers have taken, and what is left.
 
-ghost use Rattle.std.specs.Prelude.{◌≡◌, ℕ, ◌+◌, ◌-◌, ◌<◌, ◌≤◌, [], true, All, map, length, IfOk, OnOk, vec_len, vec_capacity};
+ghost use Rattle.std.specs.Prelude.{◌≡◌, ℕ, ◌+◌, ◌-◌, ◌<◌, [], true, All, map, length, IfOk, OnOk, vec_len};
 ghost use Rattle.turn_lock.specs.Counts.{total};
 ghost use Rattle.crossbeam_queue.specs.Passes.{view, IsPassOf};
 ghost use Rattle.session_tasks.specs.Tasks.{IsTask};
-ghost use Rattle.session_pool.specs.Hands.{taken_in, weight_of};
+ghost use Rattle.session_pool.specs.Hands.{IsFirst, taken_in, weight_of};
 ghost use Rattle.session_pool.specs.Rising.{Rising};
 ghost use Rattle.session_pool.specs.Suits.{Suits};
 ghost use Rattle.session_pool.specs.Tallies.{IsWhole, tally};
@@ -17,7 +17,6 @@ use session_tasks::{Gate, Run, Task};
 use std::alloc::{AllocError, Global};
 use std::collections::VecDeque;
 use std::sync::Wait;
-use teb_names::SESSIONS;
 use version_chain::Chains;
 
 /// Returns the hands of the workers. Their tokens go into this one, which is then the only one, and knows what is in all hands.
@@ -54,10 +53,7 @@ pub(crate) fn take_rest<C: Chains, G: Gate, J: Roster, R: Wait>(
 )
     requires suits { Suits run.now.hall.now J.numbers J.hall }
     requires token { IsPassOf line.now token.old × IsWhole (length J.numbers) (view token.old) }
-    requires tasks { All (IsTask run.now.hall.now run.now.scripts.now) hand.old.items }
-    requires rising { Rising 0 (taken_in hand.old) }
-    requires within { (weight : ℕ → ℕ) → total weight (taken_in hand.old) ≤ total weight (view token.old).taken }
-    requires room { vec_capacity hand.old ≡ SESSIONS }
+    requires first { IsFirst run.now.hall.now run.now.scripts.now hand.old (view token.old) }
     ensures tasks { All (IsTask run.now.hall.now run.now.scripts.now) hand.new.items }
     ensures rising { Rising 0 (taken_in hand.new) }
     ensures rest { (weight : ℕ → ℕ) → total weight (taken_in hand.new) + total weight (view token.old).taken ≡ total weight (taken_in hand.old) + total weight J.numbers }

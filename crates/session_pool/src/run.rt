@@ -1,19 +1,18 @@
 //! The run of all sessions.
 
-ghost use Rattle.std.specs.Prelude.{◌≡◌, ◌≢◌, ℕ, ◌<◌, ◌≤◌, [], All, map, length, IfOk, IfErr};
+ghost use Rattle.std.specs.Prelude.{◌≡◌, ◌≢◌, ◌<◌, ◌≤◌, All, map, IfOk, IfErr};
 ghost use Rattle.std.specs.VecDeque.{deque_len};
 ghost use Rattle.teb_history.specs.Phases.{numbers};
-ghost use Rattle.turn_lock.specs.Counts.{total};
 ghost use Rattle.session_server.specs.Passes.{IsNew, number_of};
 ghost use Rattle.session_tasks.specs.Scripted.{AreDistinct};
 ghost use Rattle.session_tasks.specs.Errors.{IsFirstError};
 ghost use Rattle.session_tasks.specs.Served.{IsServed, IsCause};
 ghost use Rattle.session_tasks.specs.declared.error.RunError.TheVariants.{OutOfMemory};
-ghost use Rattle.session_tasks.specs.Tasks.{IsTask, number_in};
+ghost use Rattle.session_tasks.specs.Tasks.{IsTask, AreTasks};
 ghost use Rattle.session_pool.specs.Hands.{AreHands};
-ghost use Rattle.session_pool.specs.Suits.{Suits};
+ghost use Rattle.session_pool.specs.Suits.{IsRosterOf};
 ghost use Rattle.session_pool.specs.Taken.{AreTaken, numbers_in};
-ghost use Rattle.session_pool.specs.Waits.{IsUnused, IsWaiting, number_at, scripted};
+ghost use Rattle.session_pool.specs.Waits.{AreWaiting, scripted};
 
 use crate::divide::divide;
 use crate::filling::fill;
@@ -22,9 +21,10 @@ use crate::queue::{Roster, SessionQueue};
 use crate::rest::{dismiss, take_rest};
 use crate::serving::{hire, work};
 use crate::waiting::Waiting;
+use crate::worker_count::WorkerCount;
 use script_text::Scripts;
 use session_server::{EngineServer, Hall, Pass, Server};
-use session_tasks::{Gate, Run, RunError, Task};
+use session_tasks::{Gate, Run, RunError, Start, Task, empty_hands};
 use std::alloc::{AllocError, Global};
 use std::collections::VecDeque;
 use std::marker::Brand;
@@ -79,34 +79,31 @@ pub fn run_pool<C: Chains + Send, G: Gate + Sync, R: Threads + Wait + Sync>(
         scripts,
         gate,
     };
-    let Ok((taken, tasks)) = serve_all(rt, alloc, &run, passes, workers) else {
+    let start = Start { run: &run, passes };
+    let workers = WorkerCount { number: workers };
+    let Ok((taken, tasks)) = serve_all(rt, alloc, start, workers) else {
         return Err(RunError::OutOfMemory);
     };
-    let tasks = in_order(&run, tasks)?;
     let passes = run.finish(rt, alloc, tasks)?;
     Ok(Pooled { passes, taken })
 }
 
-/// Returns the sessions that each worker took, and the tasks of all sessions.
+/// Returns the sessions that each worker took, and the tasks of all sessions, in order.
 fn serve_all<C: Chains + Send, G: Gate + Sync, R: Threads + Wait + Sync>(
     rt: &R,
     alloc: Global,
-    run: &Run<'_, C, G>,
-    passes: Vec<Pass<C>>,
-    workers: u8,
+    start: Start<'_, C, G>,
+    workers: WorkerCount,
 ) -> Result<(Vec<Vec<Session>>, Vec<Task<C>>), AllocError>
-    requires sessions { map number_of passes.items ≡ numbers SESSIONS }
-    requires new { All (IsNew run.now.hall.now) passes.items }
-    requires workers { 1 ≤ workers }
-    ensures taken { IfOk result (λ r. AreTaken run.now.scripts.now workers (numbers_in r.0.items)) }
-    ensures tasks { IfOk result (λ r. All (IsTask run.now.hall.now run.now.scripts.now) r.1.items) }
-    ensures all { IfOk result (λ r. (weight : ℕ → ℕ) → total weight (map number_in r.1.items) ≡ total weight (numbers SESSIONS)) }
+    ensures taken { IfOk result (λ r. AreTaken start.entry.run.now.scripts.now workers.number (numbers_in r.0.items)) }
+    ensures tasks { IfOk result (λ r. AreTasks start.entry.run.now.hall.now start.entry.run.now.scripts.now (numbers SESSIONS) r.1.items) }
 {
-    let divided = divide(run, alloc, passes)?;
+    let run = start.run;
+    let divided = divide(start, alloc)?;
     let hands = fill_hands(rt, alloc, run, divided.waiting, workers)?;
     let taken = sessions_in(alloc, &hands)?;
     let tasks = all_tasks(divided.idle, hands)?;
-    Ok((taken, tasks))
+    Ok((taken, in_order(tasks)))
 }
 
 /// Returns the hands of the workers, after all waiting sessions were taken.
@@ -115,29 +112,15 @@ fn fill_hands<C: Chains + Send, G: Gate + Sync, R: Threads + Wait + Sync>(
     alloc: Global,
     run: &Run<'_, C, G>,
     waiting: VecDeque<Waiting<C>>,
-    workers: u8,
+    workers: WorkerCount,
 ) -> Result<Vec<Vec<Task<C>>>, AllocError>
-    requires workers { 1 ≤ workers }
-    requires waiting { map number_at waiting.items ≡ scripted run.now.scripts.now }
-    requires fitting { All (IsWaiting run.now.hall.now) waiting.items }
-    ensures { IfOk result (λ v. AreHands run.now.hall.now run.now.scripts.now workers (scripted run.now.scripts.now) v.items) }
+    requires { AreWaiting run.now.hall.now run.now.scripts.now waiting.items }
+    ensures { IfOk result (λ v. AreHands run.now.hall.now run.now.scripts.now workers.number (scripted run.now.scripts.now) v.items) }
 {
     if waiting.is_empty() {
-        return empty_hands(alloc, workers);
+        return empty_hands(alloc, usize::from(workers.number));
     }
     by_queue::<Brand, C, G, R>(rt, alloc, run, waiting, workers)
-}
-
-/// Returns this number of empty hands.
-fn empty_hands<C: Chains>(alloc: Global, workers: u8) -> Result<Vec<Vec<Task<C>>>, AllocError>
-    ensures count { IfOk result (λ v. length v.items ≡ workers) }
-    ensures empty { IfOk result (λ v. All (λ hand. hand.items ≡ []) v.items) }
-{
-    let mut hands = Vec::with_capacity(alloc, usize::from(workers))?;
-    for _ in 0..workers {
-        hands.push_reserved(Vec::new(alloc));
-    }
-    Ok(hands)
 }
 
 /// Returns the hands of the workers, after they took the waiting sessions from a queue.
@@ -146,25 +129,22 @@ fn by_queue<J, C, G, R>(
     alloc: Global,
     run: &Run<'_, C, G>,
     waiting: VecDeque<Waiting<C>>,
-    workers: u8,
+    workers: WorkerCount,
 ) -> Result<Vec<Vec<Task<C>>>, AllocError>
 where
     C: Chains + Send,
     G: Gate + Sync,
     J: Roster + Send + Sync,
     R: Threads + Wait + Sync,
-    requires workers { 1 ≤ workers }
     requires some { 0 < deque_len waiting }
-    requires suits { Suits run.now.hall.now J.numbers J.hall }
-    requires numbers { map number_at waiting.items ≡ J.numbers }
-    requires unused { All (IsUnused J.hall) waiting.items }
-    ensures { IfOk result (λ v. AreHands run.now.hall.now run.now.scripts.now workers J.numbers v.items) }
+    requires roster { IsRosterOf run.now.hall.now waiting.items J.numbers J.hall }
+    ensures { IfOk result (λ v. AreHands run.now.hall.now run.now.scripts.now workers.number J.numbers v.items) }
 {
     let (line, mut token) = SessionQueue::<C, J>::ruled(alloc, waiting.len())?;
     fill(rt, &line, &mut token, waiting);
-    let mut workers = hire(alloc, &line, &mut token, workers)?;
-    work(rt, run, &line, &mut workers);
-    let mut hands = dismiss(alloc, &line, &mut token, workers)?;
+    let mut hired = hire(alloc, &line, &mut token, workers.number)?;
+    work(rt, run, &line, &mut hired, workers);
+    let mut hands = dismiss(alloc, &line, &mut token, hired)?;
     take_rest(rt, run, &line, &mut token, &mut hands[0]);
     Ok(hands)
 }

@@ -11,11 +11,11 @@ ghost use Rattle.session_pool.specs.Workers.{IsHired, IsAtWork};
 use crate::queue::{Roster, SessionQueue, Token};
 use crate::steps::{Part, Take};
 use crate::worker::Worker;
-use session_tasks::{Gate, Progress, Run, Stops, Task};
+use crate::worker_count::WorkerCount;
+use session_tasks::{Gate, Run, Stops, Task};
 use std::alloc::{AllocError, Global};
 use std::sync::Wait;
 use std::sync::atomic::AtomicIn;
-use std::sync::atomic::Ordering::SeqCst;
 use std::thread;
 use std::thread::Threads;
 use teb_names::SESSIONS;
@@ -49,19 +49,19 @@ pub(crate) fn work<C, G, J, R>(
     run: &Run<'_, C, G>,
     line: &SessionQueue<C, J>,
     workers: &mut [Worker<C>],
+    count: WorkerCount,
 )
 where
     C: Chains + Send,
     G: Gate + Sync,
     J: Roster + Send + Sync,
     R: Threads + Wait + Sync,
-    requires some { 0 < length workers.old }
     requires suits { Suits run.now.hall.now J.numbers J.hall }
     requires workers { All (IsAtWork line.now run.now.hall.now run.now.scripts.now) workers.old }
     ensures { All (IsAtWork line.now run.now.hall.now run.now.scripts.now) workers.new }
 {
     let stop = AtomicIn::<Stops>::new(0);
-    let threads = workers.len();
+    let threads = usize::from(count.number);
     thread::for_each_mut(
         rt,
         workers,
@@ -83,16 +83,10 @@ fn serve<C: Chains, G: Gate, J: Roster, R: Wait>(
     ensures { IsAtWork line.now run.now.hall.now run.now.scripts.now worker.new }
 {
     while let Some(mut task) = take(rt, run, line, &mut worker.token) {
-        run.advance(rt, &mut task, Some(stop));
-        let progress = task.progress;
+        let goes_on = run.serve(rt, &mut task, stop);
         worker.hand.push_reserved(task);
-        match progress {
-            Progress::Through => {}
-            Progress::Open => return,
-            Progress::Failed(_) => {
-                stop.store(1, SeqCst);
-                return;
-            }
+        if !goes_on {
+            return;
         }
     }
 }

@@ -1,14 +1,18 @@
 -- The sessions one after the other, up to the first that met an error.
-use Rattle.std.proofs.Common.{◌≡◌, ℕ, suc, ◌+◌, [], ◌∷◌, ◌++◌, sym, ◌∙◌, ap, arith}
-use Rattle.std.proofs.lemmas.List.{map-append}
-use Rattle.std.proofs.lemmas.List.Elements.{All-nil, All-push}
+use Rattle.std.proofs.Common.{◌≡◌, ℕ, zero, suc, ◌+◌, ◌<◌, List, [], ◌∷◌, ◌++◌, All, map, length, length-append, get_or, refl, sym, ◌∙◌, ap, arith, inl, inr}
+use Rattle.std.specs.List.{Contains}
+use Rattle.std.proofs.lemmas.Bool.{cases_lt}
+use Rattle.std.proofs.lemmas.List.{map-append, get_or-map, get_or_append_left, get_or_at, length-map}
+use Rattle.std.proofs.lemmas.List.Elements.{All-nil, All-push, All-contains_itself}
 use Rattle.teb_history.specs.Phases.{numbers}
-use Rattle.session_server.specs.Halls.{Ghosts}
+use Rattle.teb_names.specs.declared.TheConstants.{SESSIONS}
+use Rattle.session_server.specs.Halls.{Ghosts, Hall}
 use Rattle.session_tasks.specs.declared.error.RunError.{RunError}
 use Rattle.session_tasks.specs.declared.task.Task.{Task}
 use Rattle.session_tasks.specs.declared.task.Progress.TheVariants.{Through}
 use Rattle.session_tasks.specs.Errors.{HasFailed, HasNotFailed, IsFirstError, NoneFailed}
-use Rattle.session_tasks.specs.Tasks.{number_in}
+use Rattle.session_tasks.specs.Scripted.{Scripted}
+use Rattle.session_tasks.specs.Tasks.{AreTasks, IsTask, number_in}
 use Rattle.session_tasks.proofs.InOrder.{no_numbers, numbers_next}
 
 module _ {C : Type 0} {g : Ghosts C} where
@@ -55,3 +59,31 @@ module _ {C : Type 0} {g : Ghosts C} where
       told = f.failed.told;
     };
   }
+
+-- the i-th of the numbers from 1 on
+length-numbers : (n : ℕ) → length (numbers n) ≡ n
+unfolding numbers
+length-numbers zero = refl
+length-numbers (suc n) = omega (arith, length-append (numbers n) (suc n ∷ []), length-numbers n)
+
+number_of_place : (n i : ℕ) → i < n → get_or (numbers n) i 0 ≡ suc i
+unfolding numbers
+number_of_place zero i low = absurd (omega arith)
+number_of_place (suc n) i low = elim (cases_lt i n) [
+  | inl l ↦ get_or_append_left (numbers n) (suc n ∷ []) 0 i (omega (arith, l, length-numbers n)) ∙ number_of_place n i l
+  | inr l ↦ (let e : n ≡ i = omega arith in get_or_at (numbers n) (suc n) [] 0 i (length-numbers n ∙ e) ∙ ap suc e)
+]
+
+-- a session's task, which is one of these
+abbrev pub OfTasks : {C : Type 0} {g : Ghosts C} → Hall C g → Scripted → List (Task C g) → Task C g → Type 0
+OfTasks h x us t = IsTask h x t × Contains us t
+
+module _ {C : Type 0} {g : Ghosts C} (h : Hall C g) (x : Scripted) (ts : List (Task C g)) (are : AreTasks h x (numbers SESSIONS) ts) where
+  pub each_of : All (OfTasks h x ts) ts
+  each_of k d low = (are.each k d low, All-contains_itself ts k d low)
+
+  -- the task at a place of all in order
+  pub session_at : (i : ℕ) (t : Task C g) → i < length ts → t ≡ get_or ts i t → number_in t ≡ suc i
+  session_at i t low is =
+      let many : length ts ≡ SESSIONS = omega (arith, length-map ts number_in, ap length are.numbers, length-numbers SESSIONS) in
+      ap number_in is ∙ sym (get_or-map number_in ts i t 0 low) ∙ ap (λ (ns : List ℕ). get_or ns i 0) are.numbers ∙ number_of_place SESSIONS i (omega (arith, low, many))

@@ -1,20 +1,22 @@
 //! How a session is begun, and how it goes on.
 
-ghost use Rattle.std.specs.Prelude.{◌≡◌};
+ghost use Rattle.std.specs.Prelude.{◌≡◌, true};
 ghost use Rattle.std.specs.Option.{IsSome};
 ghost use Rattle.session_server.specs.Passes.{IsNew};
 ghost use Rattle.session_tasks.specs.Stops.{FoundRaised};
 ghost use Rattle.session_tasks.specs.Tasks.{IsTask, progress_at, progress_after};
-ghost use Rattle.session_tasks.specs.declared.task.Progress.TheVariants.{Open};
+ghost use Rattle.session_tasks.specs.declared.task.Progress.TheVariants.{Open, Through};
 
 use crate::gate::Gate;
 use crate::place::{lines_at, place_in};
 use crate::run::Run;
 use crate::serving::serve;
+use crate::stop::Stops;
 use crate::task::{Progress, Task};
 use script_walk::Walker;
 use session_server::{AskError, Pass};
 use std::sync::Wait;
+use std::sync::atomic::Ordering::SeqCst;
 use std::sync::atomic::{AtomicIn, Rule};
 use version_chain::Chains;
 
@@ -56,6 +58,25 @@ impl<C: Chains, G: Gate> Run<'_, C, G> {
             self.gate,
         );
         task.progress = progress_after(answer);
+    }
+
+    /// Serves a session in a worker, and returns whether the worker goes on: false if the session was stopped, or meets an error,
+    /// which raises the stop word.
+    pub fn serve<R: Wait>(&self, rt: &R, task: &mut Task<C>, stop: &AtomicIn<Stops>) -> bool
+        requires { IsTask self.now.hall.now self.now.scripts.now task.old }
+        ensures task { IsTask self.now.hall.now self.now.scripts.now task.new }
+        ensures session { task.new.pass.session ≡ task.old.pass.session }
+        ensures through { result ≡ true → task.new.progress ≡ Through }
+    {
+        self.advance(rt, task, Some(stop));
+        match task.progress {
+            Progress::Through => true,
+            Progress::Open => false,
+            Progress::Failed(_) => {
+                stop.store(1, SeqCst);
+                false
+            }
+        }
     }
 }
 

@@ -1,6 +1,7 @@
 //! Sessions that were stopped are served to their end.
 
 ghost use Rattle.std.specs.Prelude.{◌≡◌, ◌≢◌, All, map, IfOk, IfErr};
+ghost use Rattle.std.specs.List.{Contains};
 ghost use Rattle.teb_history.specs.Phases.{numbers};
 ghost use Rattle.session_server.specs.Passes.{number_of};
 ghost use Rattle.session_tasks.specs.Scripted.{AreDistinct};
@@ -26,13 +27,13 @@ impl<C: Chains, G: Gate> Run<'_, C, G> {
     /// Serves each session to its end, in order, and returns their passes.
     ///
     /// # Errors
-    /// The error of the first session that meets one; the sessions before it are served to their ends. `OutOfMemory` may also
-    /// come before the first is served.
+    /// The error of the first session that has met one, before any is served. If none has, the error of the first session that
+    /// meets one; the sessions before it are served to their ends. `OutOfMemory` may also be returned before the first is served.
     pub fn finish<R: Wait>(
         &self,
         rt: &R,
         alloc: Global,
-        mut tasks: VecDeque<Task<C>>,
+        tasks: Vec<Task<C>>,
     ) -> Result<Vec<Pass<C>>, RunError<C>>
         requires tasks { AreTasks self.now.hall.now self.now.scripts.now (numbers SESSIONS) tasks.items }
         requires scripts { AreDistinct self.now.scripts.now }
@@ -41,6 +42,7 @@ impl<C: Chains, G: Gate> Run<'_, C, G> {
         ensures cause { IfErr result (IsCause self.now.hall.now self.now.scripts.now) }
         ensures first { IfErr result (λ e. e ≢ OutOfMemory → IsFirstError (IsTask self.now.hall.now self.now.scripts.now) e) }
     {
+        let mut tasks = self.none_failed(tasks)?;
         let Ok(mut passes) = Vec::with_capacity(alloc, usize::from(SESSIONS)) else {
             return Err(RunError::OutOfMemory);
         };
@@ -48,6 +50,21 @@ impl<C: Chains, G: Gate> Run<'_, C, G> {
             passes.push_reserved(self.finish_task(rt, task)?);
         }
         Ok(passes)
+    }
+
+    /// Returns the tasks of all sessions, if none has met an error, or the error of the first session that has.
+    fn none_failed(&self, mut tasks: Vec<Task<C>>) -> Result<VecDeque<Task<C>>, RunError<C>>
+        requires { AreTasks self.now.hall.now self.now.scripts.now (numbers SESSIONS) tasks.items }
+        ensures same { IfOk result (λ v. v.items ≡ tasks.items) }
+        ensures cause { IfErr result (IsCause self.now.hall.now self.now.scripts.now) }
+        ensures first { IfErr result (IsFirstError (λ t. IsTask self.now.hall.now self.now.scripts.now t × Contains tasks.items t)) }
+    {
+        for i in 0..tasks.len() {
+            if let Progress::Failed(error) = tasks[i].progress {
+                return Err(self.fail(tasks.swap_remove(i), error));
+            }
+        }
+        Ok(VecDeque::from(tasks))
     }
 
     /// Serves a session to its end, and returns its pass.

@@ -1,16 +1,19 @@
 //! Sessions as tasks: each with its pass, and its place in its script.
 //!
-//! `thread_runner` and `session_pool` run sessions in threads. Both begin a task for each session, have workers advance the tasks,
-//! put them in the order of their sessions, and finish those that were stopped.
+//! `thread_runner` and `session_pool` run sessions in threads. Both begin a task for each session, have workers serve the tasks,
+//! put them in the order of their sessions, and finish the run.
 //!
 //! | Call | |
 //! |---|---|
 //! | `Run::begin` | a task for a new pass, before its first request |
 //! | `Run::advance` | serves a session on along its script: to the end, to an error, or to a look that finds the stop word raised |
-//! | `Run::finish` | serves all sessions to their ends, in order, and returns their passes |
+//! | `Run::serve` | the same in a worker: an error raises the stop word |
+//! | `Run::finish` | looks for the first session that failed; then serves all sessions to their ends, in order, and returns their passes |
+//! | [`empty_hands`] | a hand for each worker, which is to hold the tasks that it serves |
 //! | [`serve`] | the loop of `advance`: ask the next request, take the answer |
 //!
 //! - A [`Run`] is what tasks share: the hall, the scripts, and the hook ([`Gate`]).
+//! - A [`Start`] is a run before its first request, with the passes of all sessions.
 //! - A [`Task`] is a pass, the place of the session's script, a `Walker` at its next line, and its [`Progress`].
 //! - A *walk* along a script follows its lines by the answers, to the end (`IsWalk` in `teb_rules`). A task that is under way has
 //!   walked some of it.
@@ -31,16 +34,20 @@ mod advance;
 mod error;
 mod finish;
 mod gate;
+mod hands;
 mod place;
 mod run;
 mod serving;
+mod start;
 mod stop;
 mod task;
 
 pub use error::RunError;
 pub use gate::Gate;
+pub use hands::empty_hands;
 pub use place::place_in;
 pub use run::Run;
 pub use serving::serve;
+pub use start::Start;
 pub use stop::Stops;
 pub use task::{Progress, Task};

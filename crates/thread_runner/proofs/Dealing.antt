@@ -1,16 +1,14 @@
 -- Tasks that are dealt into hands and taken out of them.
 use Rattle.std.proofs.Common.{◌≡◌, ◌≢◌, ℕ, suc, ◌+◌, ◌-◌, ◌<◌, ◌≤◌, if◌then◌else◌, List, [], ◌∷◌, ◌++◌, map, length, set, get_or, get_or-set_other, length-set, All, Vec, eq-eqb, ne_eqb, refl, sym, ◌∙◌, ap, subst, arith}
 use Rattle.std.specs.declared.alloc.Global.{Global}
-use Rattle.std.specs.List.{Contains}
-use Rattle.std.proofs.lemmas.List.{get_or-set_same, get_or_default}
-use Rattle.std.proofs.lemmas.List.Elements.{Contains-push, Contains-append_left}
+use Rattle.std.proofs.lemmas.List.{get_or-set_same}
 use mathlib.Core.Logic.{dite}
 use native.Mathlib.Decide.{ℕ_discrete}
 use Rattle.turn_lock.specs.Counts.{count_from}
 use Rattle.session_server.specs.Halls.{Ghosts, Hall}
 use Rattle.session_tasks.specs.Scripted.{Scripted}
 use Rattle.session_tasks.specs.Tasks.{AreTasks, IsTask, number_in}
-use Rattle.thread_runner.specs.Hands.{AreDealt, IsInHands, held, hand_of}
+use Rattle.thread_runner.specs.Hands.{AreDealt, held, hand_of}
 use Rattle.session_tasks.specs.declared.task.Task.{Task}
 use Rattle.session_tasks.proofs.InOrder.{Popped, tasks_none, tasks_push, tasks_pop, tasks_some, sessions_from, from_next}
 use Rattle.teb_names.specs.declared.TheConstants.{SESSIONS}
@@ -130,45 +128,3 @@ module _ {C : Type 0} {g : Ghosts C} (h : Hall C g) (x : Scripted) (w : ℕ) whe
         task = o.task;
         session = o.session;
       }
-
--- all that lies in these hands lay in those before
-abbrev pub IsTakenOut : {C : Type 0} {g : Ghosts C} → List (Vec (Task C g) Global) → List (Vec (Task C g) Global) → Type 0
-IsTakenOut before hands = (t : _) → IsInHands hands t → IsInHands before t
-
--- the last task of a hand is taken out of it
-module _ {C : Type 0} {g : Ghosts C} (before hands : List (Vec (Task C g) Global)) (i : ℕ) (t : Task C g) (u v : Vec (Task C g) Global) (out : IsTakenOut before hands) (low : i < length hands)
-    (read : u ≡ get_or hands i u) (is : u.items ≡ v.items ++ t ∷ []) where
-  here : (d : Vec (Task C g) Global) → get_or hands i d ≡ u
-  here d = get_or_default hands i d u low ∙ sym read
-
-  pub lay : IsInHands before t
-  lay = out t (record {
-    hand = i;
-    within = low;
-    lies = λ d. subst (λ (y : Vec (Task C g) Global). Contains y.items t) (sym (here d))
-        (subst (λ (ts : List (Task C g)). Contains ts t) (sym is) (Contains-push v.items t));
-  })
-
-  in_set : (s : Task C g) → IsInHands (set hands i v) s → IsInHands hands s
-  in_set s a = dite (ℕ_discrete a.hand i)
-      (λ (q : a.hand ≡ i).
-      let there : Contains v.items s = subst (λ (y : Vec (Task C g) Global). Contains y.items s) (get_or-set_same hands i v v low)
-      (subst (λ (k : ℕ). Contains (get_or (set hands i v) k v).items s) q (a.lies v)) in
-      record {
-        hand = i;
-        within = low;
-        lies = λ d. subst (λ (y : Vec (Task C g) Global). Contains y.items s) (sym (here d))
-            (subst (λ (ts : List (Task C g)). Contains ts s) (sym is) (Contains-append_left v.items (t ∷ []) s there));
-      })
-      (λ (o : a.hand ≢ i). record {
-        hand = a.hand;
-        within = omega (arith, a.within, length-set hands i v);
-        lies = λ d. subst (λ (y : Vec (Task C g) Global). Contains y.items s) (get_or-set_other hands i a.hand v d o) (a.lies d);
-      })
-
-  pub still_out : (hands2 : List (Vec (Task C g) Global)) → hands2 ≡ set hands i v → IsTakenOut before hands2
-  still_out hands2 to s a = out s (in_set s (subst (λ (hs : List (Vec (Task C g) Global)). IsInHands hs s) to a))
-
--- a session's task, which lay in one of these hands
-abbrev pub OfHands : {C : Type 0} {g : Ghosts C} → Hall C g → Scripted → List (Vec (Task C g) Global) → Task C g → Type 0
-OfHands h x hands t = IsTask h x t × IsInHands hands t

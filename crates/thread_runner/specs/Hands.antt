@@ -1,5 +1,5 @@
 -- The tasks as they are dealt to the workers.
-use Rattle.std.specs.Prelude.{◌≡◌, ℕ, ◌<◌, ◌==◌, ◌%◌, if◌then◌else◌, List, [], ◌∷◌, ◌++◌, length, slice_index_or, Contains, Option, Some, None, Vec}
+use Rattle.std.specs.Prelude.{◌≡◌, ℕ, ◌<◌, ◌==◌, ◌%◌, if◌then◌else◌, List, [], ◌∷◌, ◌++◌, length, slice_index_or, Option, Some, None, Vec}
 use Rattle.std.specs.declared.alloc.Global.{Global}
 use Rattle.session_server.specs.Halls.{Ghosts, Hall}
 use Rattle.session_tasks.specs.Scripted.{Scripted, place_in}
@@ -23,9 +23,3 @@ held hand_of hand (s ∷ rest) = if hand_of s == hand then held hand_of hand res
 pub record AreDealt {C : Type 0} {g : Ghosts C} (h : Hall C g) (scripts : Scripted) (workers : ℕ) (sessions : List ℕ) (hands : List (Vec (Task C g) Global)) : Type 0 where
   pub count : length hands ≡ workers
   pub each : (i : ℕ) (d : Vec (Task C g) Global) → i < workers → AreTasks h scripts (held (hand_of scripts workers) i sessions) (slice_index_or hands i d).items
-
--- the task lies in one of the hands
-pub record IsInHands {C : Type 0} {g : Ghosts C} (hands : List (Vec (Task C g) Global)) (t : Task C g) : Type 0 where
-  pub hand : ℕ
-  pub within : hand < length hands
-  pub lies : (d : Vec (Task C g) Global) → Contains (slice_index_or hands hand d).items t

@@ -14,9 +14,8 @@ use crate::gather::gather;
 use crate::worker::work;
 use script_text::Scripts;
 use session_server::{Hall, Pass};
-use session_tasks::{Gate, Run, RunError};
+use session_tasks::{Gate, Run, RunError, Start};
 use std::alloc::Global;
-use std::collections::VecDeque;
 use std::sync::Wait;
 use std::thread::Threads;
 use teb_names::SESSIONS;
@@ -54,13 +53,13 @@ pub fn run_threads<C: Chains + Send, G: Gate + Sync, R: Threads + Wait + Sync>(
         scripts,
         gate,
     };
-    let Ok(mut hands) = deal(&run, alloc, passes, usize::from(workers)) else {
+    let start = Start { run: &run, passes };
+    let Ok(mut hands) = deal(start, alloc, usize::from(workers)) else {
         return Err(RunError::OutOfMemory);
     };
-    let Ok(room) = VecDeque::with_capacity(alloc, usize::from(SESSIONS)) else {
+    let Ok(room) = Vec::with_capacity(alloc, usize::from(SESSIONS)) else {
         return Err(RunError::OutOfMemory);
     };
     work(&run, rt, &mut hands);
-    let tasks = gather(&run, room, hands)?;
-    run.finish(rt, alloc, tasks)
+    run.finish(rt, alloc, gather(&run, room, hands))
 }

@@ -3,10 +3,9 @@
 ghost use Rattle.std.specs.Prelude.{ℕ, ◌<◌, All, map, length, slice_index_or};
 ghost use Rattle.session_tasks.specs.Tasks.{IsTask, AreTasks, number_in};
 
-use session_tasks::{Gate, Progress, Run, Stops, Task};
+use session_tasks::{Gate, Run, Stops, Task};
 use std::sync::Wait;
 use std::sync::atomic::AtomicIn;
-use std::sync::atomic::Ordering::SeqCst;
 use std::thread;
 use std::thread::Threads;
 use version_chain::Chains;
@@ -42,14 +41,8 @@ fn serve_hand<C: Chains, G: Gate, R: Wait>(
     ensures { AreTasks run.now.hall.now run.now.scripts.now (map number_in hand.old.items) hand.new.items }
 {
     for i in (0..hand.len()).rev() {
-        run.advance(rt, &mut hand[i], Some(stop));
-        match hand[i].progress {
-            Progress::Through => {}
-            Progress::Open => return,
-            Progress::Failed(_) => {
-                stop.store(1, SeqCst);
-                return;
-            }
+        if !run.serve(rt, &mut hand[i], stop) {
+            return;
         }
     }
 }

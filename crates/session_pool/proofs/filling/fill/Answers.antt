@@ -16,13 +16,13 @@ loop-next-init g c =
     let d = deque_len c.args.waiting in
     let z = c.args.waiting.ok.0 in
     let a = length-map c.args.waiting.items (number_at {C = g.row.C.Denot}) in
-    let b : length (map number_at c.args.waiting.items) ≡ length ns = ap length c.requires.numbers in
+    let b : length (map number_at c.args.waiting.items) ≡ length ns = ap length c.requires.roster.numbers in
     let n : length ns - d ≡ 0 = omega arith in record {
       few = omega arith;
       token = c.requires.token.0;
       knows = c.requires.token.1 ∙ ap (λ (k : ℕ). tally 256 true k []) (sym n);
-      left = c.requires.numbers ∙ ap (λ (k : ℕ). drop k ns) (sym n);
-      fits = c.requires.unused;
+      left = c.requires.roster.numbers ∙ ap (λ (k : ℕ). drop k ns) (sym n);
+      fits = c.requires.roster.unused;
     }
 
 pub push_as-requires-clause-rule : goal.push_as-requires-clause-rule

@@ -29,9 +29,9 @@ push_reserved-requires g c =
     let r = rw c.in-Some.is at c.pop_as.ensures.rule in
     let few = c.requires.suits.few in
     let less = r.2.0 in
-    let room = rest_room c.args.run.now.hall.now c.args.run.now.scripts.now c.loop-next.hand (view c.loop-next.token) c.loop-next.invariant.within
+    let room = rest_room c.args.run.now.hall.now c.args.run.now.scripts.now c.loop-next.hand (view c.loop-next.token) c.loop-next.invariant.first.within
     (let z : length (view c.loop-next.token).taken < SESSIONS = omega arith in z) in
-    let a = c.loop-next.invariant.room in
+    let a = c.loop-next.invariant.first.room in
     let b = c.loop-next.hand.ok.0 in omega arith
 
 pub loop-next-preserved : goal.loop-next-preserved
@@ -41,7 +41,7 @@ loop-next-preserved g c =
     let same : number_in c.begin.result ≡ number_at c.in-Some.next = ap (λ (s : Session). s.0) (c.begin.ensures.session ∙ r.1.session) in
     let m = rest_on c.args.run.now.hall.now c.args.run.now.scripts.now c.loop-next.hand c.push_reserved.new.self (view c.loop-next.token) (view c.pop_as.new.pass) c.begin.result
     (number_at c.in-Some.next) (length g.J.Roster.numbers)
-    inv.tasks inv.rising inv.within r.0 r.2 c.begin.ensures.task same c.push_reserved.ensures.items in record {
+    inv.first.tasks inv.first.rising inv.first.within r.0 r.2 c.begin.ensures.task same c.push_reserved.ensures.items in record {
       token = (c.pop_as.ensures.queue.0 ∙ inv.token.0, c.pop_as.ensures.queue.2 ∙ inv.token.1);
       whole = record {
         parts = ap (λ (v : Tally). v.parts) r.0 ∙ inv.whole.parts;
@@ -49,10 +49,7 @@ loop-next-preserved g c =
         all = ap (λ (v : Tally). v.pushed) r.0
             ∙ inv.whole.all;
       };
-      tasks = m.tasks;
-      rising = m.rising;
-      within = m.within;
-      room = c.push_reserved.ensures.capacity ∙ inv.room;
+      first = record { tasks = m.tasks; rising = m.rising; within = m.within; room = c.push_reserved.ensures.capacity ∙ inv.first.room };
       kept = λ weight. (let a = m.more weight in let b = inv.kept weight in omega arith);
     }
 

@@ -1,9 +1,7 @@
-use Rattle.std.proofs.Common.{◌≡◌, ℕ, ◌+◌, ◌-◌, ◌≤◌, All, length, vec_len, vec_capacity}
+use Rattle.std.proofs.Common.{◌≡◌, ℕ, ◌+◌, ◌-◌, length, vec_len}
 use Rattle.turn_lock.specs.Counts.{total}
 use Rattle.crossbeam_queue.specs.Passes.{view, IsPassOf}
-use Rattle.session_tasks.specs.Tasks.{IsTask}
-use Rattle.session_pool.specs.Hands.{taken_in}
-use Rattle.session_pool.specs.Rising.{Rising}
+use Rattle.session_pool.specs.Hands.{IsFirst, taken_in}
 use Rattle.session_pool.specs.Tallies.{IsWhole}
 use Rattle.session_pool.proofs.rest.take_rest.Given as goal
 use Rattle.teb_names.specs.declared.TheConstants.{SESSIONS}
@@ -12,10 +10,7 @@ abbrev pub invariant-loop-next : goal.invariant-loop-next
 invariant-loop-next g l = record {
   token : IsPassOf l.line l.token;
   whole : IsWhole (length g.J.Roster.numbers) (view l.token);
-  tasks : All (IsTask l.run.hall.now l.run.scripts.now) l.hand.items;
-  rising : Rising 0 (taken_in l.hand);
-  within : (weight : ℕ → ℕ) → total weight (taken_in l.hand) ≤ total weight (view l.token).taken;
-  room : vec_capacity l.hand ≡ SESSIONS;
+  first : IsFirst l.run.hall.now l.run.scripts.now l.hand (view l.token);
   kept : (weight : ℕ → ℕ) → total weight (taken_in l.hand) + total weight (view l.fn.token).taken ≡ total weight (taken_in l.fn.hand) + total weight (view l.token).taken;
 }
 

@@ -16,20 +16,13 @@ push_reserved-requires g c =
 pub loop-task-preserved : goal.loop-task-preserved
 loop-task-preserved g c =
     let t = rw c.in-Some.is at c.take.ensures.taken in
-    at_work_on c.args.run.now.hall.now c.args.run.now.scripts.now c.args.line.now c.loop-task.worker c.take.new.token c.push_reserved.new.self c.advance.new.task
+    at_work_on c.args.run.now.hall.now c.args.run.now.scripts.now c.args.line.now c.loop-task.worker c.take.new.token c.push_reserved.new.self c.serve-goes_on.new.task
     (number_in c.in-Some.task) c.loop-task.invariant c.take.ensures.token t.0 t.1
-    c.advance.ensures.task (ap (λ (s : Session). s.0) c.advance.ensures.session) c.push_reserved.ensures.items c.push_reserved.ensures.capacity
+    c.serve-goes_on.ensures.task (ap (λ (s : Session). s.0) c.serve-goes_on.ensures.session) c.push_reserved.ensures.items c.push_reserved.ensures.capacity
 
-pub returns-in-Open : goal.returns-in-Open
-returns-in-Open g c =
+pub returns-then-not-goes_on : goal.returns-then-not-goes_on
+returns-then-not-goes_on g c =
     let t = rw c.in-Some.is at c.take.ensures.taken in
-    at_work_on c.args.run.now.hall.now c.args.run.now.scripts.now c.args.line.now c.loop-task.worker c.take.new.token c.push_reserved.new.self c.advance.new.task
+    at_work_on c.args.run.now.hall.now c.args.run.now.scripts.now c.args.line.now c.loop-task.worker c.take.new.token c.push_reserved.new.self c.serve-goes_on.new.task
     (number_in c.in-Some.task) c.loop-task.invariant c.take.ensures.token t.0 t.1
-    c.advance.ensures.task (ap (λ (s : Session). s.0) c.advance.ensures.session) c.push_reserved.ensures.items c.push_reserved.ensures.capacity
-
-pub returns-in-Failed : goal.returns-in-Failed
-returns-in-Failed g c =
-    let t = rw c.in-Some.is at c.take.ensures.taken in
-    at_work_on c.args.run.now.hall.now c.args.run.now.scripts.now c.args.line.now c.loop-task.worker c.take.new.token c.push_reserved.new.self c.advance.new.task
-    (number_in c.in-Some.task) c.loop-task.invariant c.take.ensures.token t.0 t.1
-    c.advance.ensures.task (ap (λ (s : Session). s.0) c.advance.ensures.session) c.push_reserved.ensures.items c.push_reserved.ensures.capacity
+    c.serve-goes_on.ensures.task (ap (λ (s : Session). s.0) c.serve-goes_on.ensures.session) c.push_reserved.ensures.items c.push_reserved.ensures.capacity

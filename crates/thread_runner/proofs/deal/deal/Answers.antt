@@ -11,15 +11,15 @@ use Rattle.thread_runner.proofs.deal.deal.Goals as goal
 
 pub loop-pass-init : goal.loop-pass-init
 loop-pass-init g c =
-    let h = c.args.run.now.hall.now in
-    let x = c.args.run.now.scripts.now in
-    let n = vec_len c.args.passes in
+    let h = c.args.start.run.now.hall.now in
+    let x = c.args.start.run.now.scripts.now in
+    let n = vec_len c.args.start.passes in
     let hands = c.in_ok-hands.hands in
-    let all : n ≡ SESSIONS = all_passes h c.args.passes.items n (let z = c.args.passes.ok.0 in let e : length c.args.passes.items ≡ n = omega arith in e) c.requires.sessions in
+    let all : n ≡ SESSIONS = all_passes h c.args.start.passes.items n (let z = c.args.start.passes.ok.0 in let e : length c.args.start.passes.items ≡ n = omega arith in e) c.args.start.sessions in
     let many : length hands.items ≡ c.args.workers = (let z = hands.ok.0 in let y = c.in_ok-hands.ensures.len in omega arith) in record {
       few = omega arith;
-      sessions = c.requires.sessions ∙ ap numbers (sym all);
-      new = c.requires.new;
+      sessions = c.args.start.sessions ∙ ap numbers (sym all);
+      new = c.args.start.new;
       dealt = subst (λ (k : ℕ). AreDealt h x c.args.workers (count_from (suc k) (SESSIONS - k)) hands.items) (sym all) (dealt_none h x c.args.workers hands.items many c.in_ok-hands.ensures.empty);
     }
 
@@ -28,13 +28,13 @@ begin-requires g c =
     let ps = c.loop-pass.passes in
     let qs = c.pop.new.self in
     let less : vec_len ps ≡ suc (vec_len qs) = (let z = c.in-Some.ensures.len in omega arith) in
-    (last_of c.args.run.now.hall.now ps.items qs.items c.in-Some.pass (vec_len ps) (vec_len qs) (c.pop.ensures.items ∙ ap (λ o. qs.items ++ option_to_list o) c.in-Some.is) less
+    (last_of c.args.start.run.now.hall.now ps.items qs.items c.in-Some.pass (vec_len ps) (vec_len qs) (c.pop.ensures.items ∙ ap (λ o. qs.items ++ option_to_list o) c.in-Some.is) less
     c.loop-pass.invariant.sessions c.loop-pass.invariant.new).last_new
 
 pub loop-pass-preserved : goal.loop-pass-preserved
 loop-pass-preserved g c =
-    let h = c.args.run.now.hall.now in
-    let x = c.args.run.now.scripts.now in
+    let h = c.args.start.run.now.hall.now in
+    let x = c.args.start.run.now.scripts.now in
     let w = c.args.workers in
     let ps = c.loop-pass.passes in
     let qs = c.pop.new.self in
@@ -52,7 +52,7 @@ loop-pass-preserved g c =
 
 pub returns : goal.returns
 returns g c =
-    let h = c.args.run.now.hall.now in
-    let x = c.args.run.now.scripts.now in
+    let h = c.args.start.run.now.hall.now in
+    let x = c.args.start.run.now.scripts.now in
     let none : vec_len c.loop-pass.passes ≡ 0 = c.in_default.ensures.cases.0 in
     subst (λ ns. AreDealt h x c.args.workers ns c.loop-pass.hands.items) (ap (λ (k : ℕ). count_from (suc k) (SESSIONS - k)) none ∙ all_sessions) c.loop-pass.invariant.dealt

@@ -3,8 +3,7 @@ use Rattle.std.specs.Option.{option_to_list}
 use Rattle.session_tasks.specs.Tasks.{AreTasks}
 use Rattle.thread_runner.specs.Hands.{AreDealt}
 use Rattle.session_tasks.proofs.InOrder.{all_sessions, no_numbers, tasks_none, gathered_on}
-use Rattle.session_tasks.proofs.FirstErrors.{none_yet, one_more, first_error}
-use Rattle.thread_runner.proofs.Dealing.{OfHands, gather_some, gather_step, lay, still_out}
+use Rattle.thread_runner.proofs.Dealing.{gather_some, gather_step}
 use Rattle.thread_runner.proofs.gather.gather.Goals as goal
 
 pub loop-passed-init : goal.loop-passed-init
@@ -14,8 +13,6 @@ loop-passed-init g c =
       len = c.args.tasks.ok.0 ∙ ap length c.requires.none;
       room = c.requires.room;
       tasks = subst (λ (ns : List ℕ). AreTasks h x ns c.args.tasks.items) (sym no_numbers) (tasks_none h x c.args.tasks.items c.requires.none);
-      none = none_yet (OfHands h x c.args.hands.items) 0 refl;
-      out = λ t a. a;
       count = refl;
       dealt = subst (λ (ns : List ℕ). AreDealt h x (vec_len c.args.hands) ns c.args.hands.items) (sym all_sessions) c.requires.dealt;
     }
@@ -29,15 +26,6 @@ unwrap-task-requires g c =
     c.loop-passed-test.true inv.dealt c.hand_of-hand.ensures.hand (c.len.ensures ∙ inv.count) refl c.hand_of-hand.ensures.within c.index_mut.ensures.value in
     search rules
 
-pub fail-requires-clause-task : goal.fail-requires-clause-task
-fail-requires-clause-task g c =
-    let inv = c.loop-passed.invariant in
-    let v = c.pop.new.self in
-    (gather_step c.args.run.now.hall.now c.args.run.now.scripts.now (vec_len c.args.hands) c.loop-passed.passed c.hand_of-hand.result (c.loop-passed.passed + 1) c.len.result c.unwrap-task.result
-    c.loop-passed.hands.items _ c.index_mut.result.now v
-    c.loop-passed-test.true inv.dealt c.hand_of-hand.ensures.hand (c.len.ensures ∙ inv.count) refl c.hand_of-hand.ensures.within c.index_mut.ensures.value
-    (c.pop.ensures.items ∙ ap (λ o. v.items ++ option_to_list o) c.unwrap-task.ensures) refl).task
-
 pub loop-passed-preserved : goal.loop-passed-preserved
 loop-passed-preserved g c =
     let h = c.args.run.now.hall.now in
@@ -46,39 +34,12 @@ loop-passed-preserved g c =
     let inv = c.loop-passed.invariant in
     let v = c.pop.new.self in
     let t = c.unwrap-task.result in
-    let is = c.pop.ensures.items ∙ ap (λ o. v.items ++ option_to_list o) c.unwrap-task.ensures in
-    let low : c.hand_of-hand.result < length c.loop-passed.hands.items = omega (arith, c.hand_of-hand.ensures.within, c.len.ensures, c.loop-passed.hands.ok.0) in
     let out = gather_step h x (vec_len c.args.hands) k c.hand_of-hand.result (k + 1) c.len.result t c.loop-passed.hands.items _ c.index_mut.result.now v
     c.loop-passed-test.true inv.dealt c.hand_of-hand.ensures.hand (c.len.ensures ∙ inv.count) refl c.hand_of-hand.ensures.within c.index_mut.ensures.value
     (c.pop.ensures.items ∙ ap (λ o. v.items ++ option_to_list o) c.unwrap-task.ensures) refl in record {
-      len = c.push_back_reserved.ensures.len ∙ ap (λ (n : ℕ). n + 1) inv.len;
-      room = c.push_back_reserved.ensures.capacity ∙ inv.room;
-      tasks = gathered_on h x k c.loop-passed.tasks.items c.push_back_reserved.new.self.items t inv.tasks out.task out.session c.push_back_reserved.ensures.items;
-      none = one_more (OfHands h x c.args.hands.items) k (k + 1) t inv.none
-          (out.task, lay c.args.hands.items c.loop-passed.hands.items c.hand_of-hand.result t c.index_mut.result.now v inv.out low c.index_mut.ensures.value is) c.in_default.not-Failed out.session
-          refl;
-      out = still_out c.args.hands.items c.loop-passed.hands.items c.hand_of-hand.result t c.index_mut.result.now v inv.out low c.index_mut.ensures.value is _ refl;
+      len = c.push_reserved.ensures.len ∙ ap (λ (n : ℕ). n + 1) inv.len;
+      room = c.push_reserved.ensures.capacity ∙ inv.room;
+      tasks = gathered_on h x k c.loop-passed.tasks.items c.push_reserved.new.self.items t inv.tasks out.task out.session c.push_reserved.ensures.items;
       count = inv.count;
       dealt = out.dealt;
     }
-
-pub returns-in-Failed-clause-first : goal.returns-in-Failed-clause-first
-returns-in-Failed-clause-first g c =
-    let h = c.args.run.now.hall.now in
-    let x = c.args.run.now.scripts.now in
-    let k = c.loop-passed.passed in
-    let inv = c.loop-passed.invariant in
-    let v = c.pop.new.self in
-    let t = c.unwrap-task.result in
-    let is = c.pop.ensures.items ∙ ap (λ o. v.items ++ option_to_list o) c.unwrap-task.ensures in
-    let low : c.hand_of-hand.result < length c.loop-passed.hands.items = omega (arith, c.hand_of-hand.ensures.within, c.len.ensures, c.loop-passed.hands.ok.0) in
-    let out = gather_step h x (vec_len c.args.hands) k c.hand_of-hand.result (k + 1) c.len.result t c.loop-passed.hands.items _ c.index_mut.result.now v
-    c.loop-passed-test.true inv.dealt c.hand_of-hand.ensures.hand (c.len.ensures ∙ inv.count) refl c.hand_of-hand.ensures.within c.index_mut.ensures.value is refl in
-    first_error (OfHands h x c.args.hands.items) k c.fail.result inv.none (record {
-      task = t;
-      is = (out.task, lay c.args.hands.items c.loop-passed.hands.items c.hand_of-hand.result t c.index_mut.result.now v inv.out low c.index_mut.ensures.value is);
-      session = out.session;
-      error = c.in-Failed.error;
-      failed = c.in-Failed.is;
-      told = c.fail.ensures.error;
-    })

@@ -1,21 +1,16 @@
-use Rattle.std.proofs.Common.{◌≡◌, suc, ◌-◌, vec_len}
-use Rattle.std.specs.VecDeque.{deque_len, deque_capacity}
+use Rattle.std.proofs.Common.{◌≡◌, suc, ◌-◌, vec_len, vec_capacity}
 use Rattle.teb_history.specs.Phases.{numbers}
 use Rattle.turn_lock.specs.Counts.{count_from}
-use Rattle.session_tasks.specs.Errors.{NoneFailed}
 use Rattle.session_tasks.specs.Tasks.{AreTasks}
 use Rattle.thread_runner.specs.Hands.{AreDealt}
-use Rattle.thread_runner.proofs.Dealing.{IsTakenOut, OfHands}
 use Rattle.thread_runner.proofs.gather.gather.Given as goal
 use Rattle.teb_names.specs.declared.TheConstants.{SESSIONS}
 
 abbrev pub invariant-loop-passed : goal.invariant-loop-passed
 invariant-loop-passed g l = record {
-  len : deque_len l.tasks ≡ l.passed;
-  room : deque_capacity l.tasks ≡ SESSIONS;
+  len : vec_len l.tasks ≡ l.passed;
+  room : vec_capacity l.tasks ≡ SESSIONS;
   tasks : AreTasks l.run.hall.now l.run.scripts.now (numbers l.passed) l.tasks.items;
-  none : NoneFailed (OfHands l.run.hall.now l.run.scripts.now l.fn.hands.items) l.passed;
-  out : IsTakenOut l.fn.hands.items l.hands.items;
   count : vec_len l.hands ≡ vec_len l.fn.hands;
   dealt : AreDealt l.run.hall.now l.run.scripts.now (vec_len l.fn.hands) (count_from (suc l.passed) (SESSIONS - l.passed)) l.hands.items;
 }

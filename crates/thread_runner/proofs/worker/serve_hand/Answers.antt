@@ -8,21 +8,14 @@ pub loop-i-preserved : goal.loop-i-preserved
 loop-i-preserved g c =
     let d = c.index_mut.result.now in (
       c.loop-i.invariant.0,
-      tasks_set c.args.run.now.hall.now c.args.run.now.scripts.now (map number_in c.args.hand.now.items) c.loop-i.hand.items (c.loop-i.i - 1) c.advance.new.task d c.loop-i.invariant.1
-          c.advance.ensures.task
-          (ap (λ (s : Session). s.0) c.advance.ensures.session ∙ ap number_in c.index_mut.ensures.value),
+      tasks_set c.args.run.now.hall.now c.args.run.now.scripts.now (map number_in c.args.hand.now.items) c.loop-i.hand.items (c.loop-i.i - 1) c.serve.new.task d c.loop-i.invariant.1
+          c.serve.ensures.task
+          (ap (λ (s : Session). s.0) c.serve.ensures.session ∙ ap number_in c.index_mut.ensures.value),
     )
 
-pub returns-in-Open : goal.returns-in-Open
-returns-in-Open g c =
+pub returns-then-not-serve : goal.returns-then-not-serve
+returns-then-not-serve g c =
     let d = c.index_mut.result.now in
-    tasks_set c.args.run.now.hall.now c.args.run.now.scripts.now (map number_in c.args.hand.now.items) c.loop-i.hand.items (c.loop-i.i - 1) c.advance.new.task d c.loop-i.invariant.1
-    c.advance.ensures.task
-    (ap (λ (s : Session). s.0) c.advance.ensures.session ∙ ap number_in c.index_mut.ensures.value)
-
-pub returns-in-Failed : goal.returns-in-Failed
-returns-in-Failed g c =
-    let d = c.index_mut.result.now in
-    tasks_set c.args.run.now.hall.now c.args.run.now.scripts.now (map number_in c.args.hand.now.items) c.loop-i.hand.items (c.loop-i.i - 1) c.advance.new.task d c.loop-i.invariant.1
-    c.advance.ensures.task
-    (ap (λ (s : Session). s.0) c.advance.ensures.session ∙ ap number_in c.index_mut.ensures.value)
+    tasks_set c.args.run.now.hall.now c.args.run.now.scripts.now (map number_in c.args.hand.now.items) c.loop-i.hand.items (c.loop-i.i - 1) c.serve.new.task d c.loop-i.invariant.1
+    c.serve.ensures.task
+    (ap (λ (s : Session). s.0) c.serve.ensures.session ∙ ap number_in c.index_mut.ensures.value)

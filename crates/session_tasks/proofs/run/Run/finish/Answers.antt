@@ -9,7 +9,7 @@ use Rattle.turn_lock.specs.Counts.{count_from}
 use Rattle.session_tasks.specs.Tasks.{AreTasks, IsTask}
 use Rattle.session_tasks.specs.Served.{IsServed}
 use Rattle.session_tasks.specs.Errors.{HasFailed}
-use Rattle.session_tasks.proofs.FirstErrors.{none_yet as none_failed, one_more, first_error, through_stands}
+use Rattle.session_tasks.proofs.FirstErrors.{OfTasks, none_yet as none_failed, of_weaker, one_more, first_error, through_stands}
 use Rattle.session_tasks.proofs.InOrder.{all_sessions, none_yet, finish_front, finish_step, sessions_on}
 use Rattle.session_tasks.proofs.run.Run.finish.Goals as goal
 
@@ -23,7 +23,8 @@ loop-task-init g c =
       sessions = none_yet h c.in-Ok.passes.items (vec_len c.in-Ok.passes) c.in-Ok.ensures.items none;
       served = subst (All (IsServed h x)) (sym c.in-Ok.ensures.items) (All-nil (IsServed h x));
       none = none_failed (IsTask h x) (vec_len c.in-Ok.passes) none;
-      tasks = subst (λ (ns : List ℕ). AreTasks h x ns c.args.tasks.items) (sym (ap (λ (k : ℕ). count_from (suc k) (SESSIONS - k)) none ∙ all_sessions)) c.requires.tasks;
+      tasks = subst (λ (ns : List ℕ). AreTasks h x ns c.in_ok-tasks.tasks.items) (sym (ap (λ (k : ℕ). count_from (suc k) (SESSIONS - k)) none ∙ all_sessions))
+          (subst (AreTasks h x (numbers SESSIONS)) (sym c.in_ok-tasks.ensures.same) c.requires.tasks);
     }
 
 pub loop-task-preserved : goal.loop-task-preserved
@@ -65,6 +66,14 @@ returns-in_err-finish_task-clause-first g c =
     let is : us ≡ t ∷ ts = c.pop_front.ensures.items ∙ ap (λ o. option_to_list o ++ ts) c.in-Some.is in
     let front = finish_step h x k us ts t (finish_front h x k us ts t inv.few inv.tasks is) inv.tasks is in
     let e = c.in_err-finish_task.field-0.0 in
-    let p = err_from_is_err_and c.from_residual.result c.from_residual.ensures.1 in
+    let p = err_from_is_err_and c.from_residual-in_err-finish_task.result c.from_residual-in_err-finish_task.ensures.1 in
     rw (p.1, p.2)
     (λ _. first_error (IsTask h x) k e inv.none (subst (λ (s : ℕ). HasFailed (IsTask h x) s e) front.session c.in_err-finish_task.ensures.failed))
+
+pub returns-in_err-tasks-clause-first : goal.returns-in_err-tasks-clause-first
+returns-in_err-tasks-clause-first g c =
+    let h = c.args.self.now.hall.now in
+    let x = c.args.self.now.scripts.now in
+    let p = err_from_is_err_and c.from_residual.result c.from_residual.ensures.1 in
+    rw (p.1, p.2)
+    (λ _. of_weaker (OfTasks h x c.args.tasks.items) (IsTask h x) (λ t a. a.0) c.in_err-tasks.field-0.0 c.in_err-tasks.ensures.first)

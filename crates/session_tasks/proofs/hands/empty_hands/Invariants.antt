@@ -1,5 +1,5 @@
 use Rattle.std.proofs.Common.{◌≡◌, [], All, vec_len, vec_capacity}
-use Rattle.session_pool.proofs.run.empty_hands.Given as goal
+use Rattle.session_tasks.proofs.hands.empty_hands.Given as goal
 
 abbrev pub invariant-loop : goal.invariant-loop
 invariant-loop g l = record {
