@@ -37,7 +37,8 @@ loop-pass-preserved-then-is_some g c =
     let less : vec_len ps ≡ suc (vec_len qs) = (let z = c.in-Some.ensures.len in omega arith) in
     let count = c.loop-pass.invariant.count in
     let more = c.push_front_reserved.ensures.len in record {
-      divided = waits_on c.args.start.run.now.hall.now x (vec_len ps) (vec_len qs) ps.items qs.items c.in-Some.pass c.session-session.result c.loop-pass.waiting.items c.push_front_reserved.new.self.items
+      divided = waits_on c.args.start.run.now.hall.now x (vec_len ps) (vec_len qs) ps.items qs.items c.in-Some.pass c.session-session.result c.loop-pass.waiting.items
+          c.push_front_reserved.new.self.items
           c.loop-pass.idle.items c.loop-pass.invariant.divided
           (c.pop.ensures.items ∙ ap (λ o. qs.items ++ option_to_list o) c.in-Some.is) less c.session-session.ensures (ap is_some (sym c.place_in.ensures) ∙ (sym c.is_some.ensures ∙ c.if-is_some.true))
           c.push_front_reserved.ensures.items;
@@ -54,7 +55,8 @@ loop-pass-preserved g c =
     let less : vec_len ps ≡ suc (vec_len qs) = (let z = c.in-Some.ensures.len in omega arith) in
     let count = c.loop-pass.invariant.count in
     let more = c.push_reserved.ensures.len in record {
-      divided = idles_on c.args.start.run.now.hall.now x (vec_len ps) (vec_len qs) ps.items qs.items c.in-Some.pass c.session-session.result c.begin.result c.loop-pass.waiting.items c.loop-pass.idle.items
+      divided = idles_on c.args.start.run.now.hall.now x (vec_len ps) (vec_len qs) ps.items qs.items c.in-Some.pass c.session-session.result c.begin.result
+          c.loop-pass.waiting.items c.loop-pass.idle.items
           c.push_reserved.new.self.items c.loop-pass.invariant.divided
           (c.pop.ensures.items ∙ ap (λ o. qs.items ++ option_to_list o) c.in-Some.is) less c.session-session.ensures
           (ap is_some (sym c.place_in.ensures) ∙ (sym c.is_some.ensures ∙ c.if-is_some.false)) c.begin.ensures.task c.begin.ensures.session c.push_reserved.ensures.items;
@@ -65,12 +67,14 @@ loop-pass-preserved g c =
 
 pub returns-clause-waiting : goal.returns-clause-waiting
 returns-clause-waiting g c = record {
-  numbers = (divided_last c.args.start.run.now.hall.now c.args.start.run.now.scripts.now (vec_len c.loop-pass.passes) c.loop-pass.passes.items c.loop-pass.waiting.items c.loop-pass.idle.items c.in_default.ensures.cases.0
+  numbers = (divided_last c.args.start.run.now.hall.now c.args.start.run.now.scripts.now (vec_len c.loop-pass.passes) c.loop-pass.passes.items c.loop-pass.waiting.items
+      c.loop-pass.idle.items c.in_default.ensures.cases.0
       c.loop-pass.invariant.divided).waits;
   each = c.loop-pass.invariant.divided.fitting;
 }
 
 pub returns-clause-all : goal.returns-clause-all
 returns-clause-all g c =
-    (divided_last c.args.start.run.now.hall.now c.args.start.run.now.scripts.now (vec_len c.loop-pass.passes) c.loop-pass.passes.items c.loop-pass.waiting.items c.loop-pass.idle.items c.in_default.ensures.cases.0
+    (divided_last c.args.start.run.now.hall.now c.args.start.run.now.scripts.now (vec_len c.loop-pass.passes) c.loop-pass.passes.items c.loop-pass.waiting.items
+    c.loop-pass.idle.items c.in_default.ensures.cases.0
     c.loop-pass.invariant.divided).all

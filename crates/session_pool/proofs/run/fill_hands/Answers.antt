@@ -13,5 +13,6 @@ returns-then-is_empty g c =
     let z = ws.ok.0 in
     let none : deque_len ws ≡ 0 = eqb-true (deque_len ws) 0 (sym c.is_empty.ensures ∙ c.if-is_empty.true) in
     let empty : length ws.items ≡ 0 = omega arith in
-    no_hands_yet c.args.run.now.hall.now c.args.run.now.scripts.now c.from.result c.args.workers.number (scripted c.args.run.now.scripts.now) c.empty_hands.result c.from.ensures c.empty_hands.ensures.len c.empty_hands.ensures.empty
+    no_hands_yet c.args.run.now.hall.now c.args.run.now.scripts.now c.from.result c.args.workers.number (scripted c.args.run.now.scripts.now) c.empty_hands.result
+    c.from.ensures c.empty_hands.ensures.len c.empty_hands.ensures.empty
     (sym c.requires.numbers ∙ none_at ws.items empty)

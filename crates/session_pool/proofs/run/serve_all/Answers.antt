@@ -7,7 +7,8 @@ use Rattle.session_pool.proofs.run.serve_all.Goals as goal
 
 pub returns-clause-taken : goal.returns-clause-taken
 returns-clause-taken g c =
-    hands_taken c.args.start.run.now.hall.now c.args.start.run.now.scripts.now c.args.workers.number c.in_ok-hands.hands.items _ c.in_ok-hands.ensures (c.in_ok-taken.ensures ∙ ap (map taken_in) c.deref.ensures.value)
+    hands_taken c.args.start.run.now.hall.now c.args.start.run.now.scripts.now c.args.workers.number c.in_ok-hands.hands.items _ c.in_ok-hands.ensures
+    (c.in_ok-taken.ensures ∙ ap (map taken_in) c.deref.ensures.value)
 
 pub returns-clause-tasks : goal.returns-clause-tasks
 returns-clause-tasks g c =

@@ -32,7 +32,8 @@ loop-i-preserved g c =
     let low : i < length ts = omega (arith, c.args.tasks.ok.0, c.len-i-end.ensures, c.loop-i-test.true) in
     record {
       same = inv.same;
-      none = one_more (OfTasks h x ts) i (i + 1) t inv.none (subst (OfTasks h x ts) (sym is) (each_of h x ts c.requires i t low)) c.in_default.not-Failed (session_at h x ts c.requires i t low is) refl;
+      none = one_more (OfTasks h x ts) i (i + 1) t inv.none (subst (OfTasks h x ts) (sym is) (each_of h x ts c.requires i t low)) c.in_default.not-Failed (session_at h x
+          ts c.requires i t low is) refl;
     }
 
 pub returns-in-Failed-clause-first : goal.returns-in-Failed-clause-first
