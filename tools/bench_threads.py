@@ -5,7 +5,7 @@
 
 Each client has a thread, and makes transfers between accounts: it counts the transfer, and adds to two accounts, in a transaction that is on the disk before it
 is answered. SQLite has a write-ahead log and synchronous=FULL, RocksDB pessimistic transactions and a synced write (bench_threads.cpp). For each number of
-clients there are as many transfers as take some N seconds. The stores take turns, round after round, since the speed of a disk changes; of the rounds the median is told. The calls of fsync and
+clients there are so many transfers that a run takes at least N seconds. The stores take turns, round after round, since the speed of a disk changes; of the rounds the median is told. The calls of fsync and
 fdatasync are counted by strace in another run. It needs g++, strace and the packages libsqlite3-dev and librocksdb-dev; what is missing is left out.
 """
 import argparse
@@ -24,7 +24,7 @@ TEBALDI = TOP / "crates/embedded_shared/out/embedded_shared"
 SOURCE = TOP / "tools/bench_threads.cpp"
 BYTES = 67_108_864
 CLIENTS = (1, 2, 4, 8, 32)
-# (a first run of so many transfers tells how many a longer one makes in its time)
+# (the transfers of a first run, which are doubled until it takes long enough, and of the run whose calls are counted)
 FIRST = 320
 TRACED = 3200
 
@@ -72,10 +72,18 @@ def syncs_of(command, path, clients, count):
     return sum(int(calls) for calls in re.findall(r"^ *[\d.]+ +[\d.]+ +\d+ +(\d+) .*sync$", traced.stderr, re.MULTILINE))
 
 
+def count_for(command, path, clients, seconds):
+    """Returns how many transfers of each client take at least so many seconds."""
+    count = -(-FIRST // clients)
+    while seconds_of(command, path, clients, count) < seconds:
+        count *= 2
+    return count
+
+
 def measured(found, folder, clients, seconds, rounds):
     """Yields, for each store, its name, the median of its commits a second, and the syncs of a commit."""
-    first, rates = -(-FIRST // clients), {name: [] for name in found}
-    counts = {name: max(1, round(first * seconds / seconds_of(command, f"{folder}/{name}", clients, first))) for name, command in found.items()}
+    rates = {name: [] for name in found}
+    counts = {name: count_for(command, f"{folder}/{name}", clients, seconds) for name, command in found.items()}
     for _ in range(rounds):
         for name, command in found.items():
             rates[name].append(clients * counts[name] / seconds_of(command, f"{folder}/{name}", clients, counts[name]))
@@ -98,7 +106,7 @@ def bare_syncs(path, seconds):
 
 def main():
     words = argparse.ArgumentParser(description=__doc__, formatter_class=argparse.RawDescriptionHelpFormatter)
-    words.add_argument("--seconds", type=float, default=1, help="about how long each run takes")
+    words.add_argument("--seconds", type=float, default=1, help="how long each run takes at least, or nearly")
     words.add_argument("--rounds", type=int, default=5, help="how many runs each store makes for each number of clients")
     words.add_argument("--folder", default="/var/tmp", help="where the files are, on a disk")
     given = words.parse_args()
