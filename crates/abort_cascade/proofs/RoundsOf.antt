@@ -1,4 +1,4 @@
--- A round over the unfinished transactions is a round of the cascade, and the last one blames as the cascade does.
+-- A round over the unfinished transactions is a round of the cascade, and the last round names the same culprits.
 use Rattle.std.proofs.Common.{◌≡◌, ◌≢◌, ℕ, zero, suc, ◌+◌, ◌<◌, ◌≤◌, Bool, true, false, cond, not, ◌&&◌, ◌||◌, eqb, ltb, List, [], ◌∷◌, ◌++◌, length, filter, map, find, take, get_or, Option, Some, None, is_some, unwrap_or, refl, sym, ◌∙◌, ap, subst, inl, inr, arith, lt-ltb}
 use Rattle.std.specs.List.{list_any}
 use Rattle.std.proofs.lemmas.List.{take_more}
@@ -24,7 +24,7 @@ use Rattle.teb_history.proofs.LeastNumbers.{numbers_find}
 use Rattle.abort_cascade.proofs.Stages.{stage, stage_none, stage_next, stage_length, stage_last, stage_step}
 use Rattle.teb_laws.proofs.Lists.{list_any_In}
 
--- a round, one transaction after another
+-- a round visits the transactions one after another
 module _ (b : Lists) (t : ℕ) (fell : List (Txn × Txn)) where
   with_append : (u : Txn) (c : Option Txn) (xs ys : List (Txn × Txn)) → with_culprit u c (xs ++ ys) ≡ with_culprit u c xs ++ ys
   with_append u None xs ys = refl
@@ -55,7 +55,7 @@ length-fallen : (fell : List (Txn × Txn)) → length (fallen_numbers fell) ≡ 
 length-fallen [] = refl
 length-fallen (p ∷ ps) = ap suc (length-fallen ps)
 
--- what somebody read from, in two orders
+-- whether some element of xs is related to some element of ys, searched in either order
 any_swap : {A B : Type 0} (R : A → B → Bool) (xs : List A) (ys : List B) → list_any (λ x. list_any (R x) ys) xs ≡ list_any (λ y. list_any (λ x. R x y) xs) ys
 any_swap R [] ys = sym (nobody ys)
   where
@@ -95,7 +95,7 @@ member_number : (fell : List (Txn × Txn)) (w : ℕ) → is_member fell w ≡ li
 member_number [] w = refl
 member_number (p ∷ ps) w = λ j. eqb_swap p.0.0 w j || member_number ps w j
 
--- the filters of a list
+-- tests that agree on a list filter it alike
 filter_alike_in : (p q : ℕ → Bool) (xs : List ℕ) → ((x : ℕ) → In x xs → q x ≡ p x) → filter q xs ≡ filter p xs
 filter_alike_in p q [] f = refl
 filter_alike_in p q (x ∷ xs) f = λ j. cond (f x (inl refl) j) (x ∷ filter_alike_in p q xs (λ y i. f y (inr i)) j) (filter_alike_in p q xs (λ y i. f y (inr i)) j)
@@ -109,7 +109,7 @@ filter_twice p r (x ∷ xs) = go (p x) (filter_twice p r xs)
     go true ih = ap (λ (ys : List ℕ). cond (r x) (x ∷ ys) ys) ih ∙ ap (λ (o : Bool). cond o (x ∷ filter (λ x. r x && p x) xs) (filter (λ x. r x && p x) xs)) (sym (and_true (r x)))
     go false ih = ih ∙ ap (λ (o : Bool). cond o (x ∷ filter (λ x. r x && p x) xs) (filter (λ x. r x && p x) xs)) (sym (and_false (r x)))
 
--- the numbers of a round
+-- the numbers of the transactions that fall in a round
 round_numbers : (b : Lists) (t : ℕ) (fell : List (Txn × Txn)) (ns : List ℕ) → fallen_numbers (round_of b t fell (map (λ u. record { 0 = u }) ns)) ≡ filter
     (λ u. is_some (culprit b t fell (record { 0 = u }))) ns
 round_numbers b t fell [] = refl
@@ -136,7 +136,7 @@ module _ (b : Lists) (H : List Event) (is : BookOf b H) (t : ℕ) (now : unfinis
   unfolding txns
   txns_begun u i = orderly_begun H u is.orderly (numbers_pos (begun_count H) u i) (numbers-In (begun_count H) u i)
 
-  -- an unfinished one falls with somebody exactly where it read from t or from one that fell
+  -- an unfinished transaction falls in a round if and only if it read from t or from one that fell before
   culprit_any : (fell : List (Txn × Txn)) (u : ℕ) → unfinished H u ≡ true → AllUnfinished (fallen_numbers fell)
       → is_some (culprit b t fell (record { 0 = u })) ≡ (not (eqb u t) && list_any (read_from H u) (t ∷ fallen_numbers fell))
   culprit_any fell u un all = go (eqb u t)
@@ -159,7 +159,7 @@ module _ (b : Lists) (H : List Event) (is : BookOf b H) (t : ℕ) (now : unfinis
       go true = refl
       go false = found_any (λ w. eqb w.0 t || is_member fell w.0) (sources_in b (record { 0 = u })) ∙ ap (list_any (λ w. eqb w.0 t || is_member fell w.0)) listed ∙ any
 
-  -- who falls is unfinished
+  -- a transaction that falls is unfinished
   falls_unfinished : (us : List ℕ) (u : ℕ) → AllUnfinished us → In u (txns H) → falls H t us u ≡ true → unfinished H u ≡ true
   unfolding falls
   falls_unfinished us u all i h =
@@ -207,7 +207,7 @@ module _ (b : Lists) (H : List Event) (is : BookOf b H) (t : ℕ) (now : unfinis
   round_stage fell k e =
       round_falls fell (λ a i. stage_unfinished k a (subst (In a) e i)) ∙ ap (λ (us : List ℕ). filter (falls H t us) (txns H)) e ∙ sym (stage_next H t k)
 
-  -- the culprit of one that falls is whom the cascade blames
+  -- the culprit of a transaction that falls is the one that the cascade blames
   pub culprit_blamed : (fell : List (Txn × Txn)) → fallen_numbers fell ≡ cascade H t → (u : ℕ) → unfinished H u ≡ true → (w : Txn) → culprit b t fell (record { 0 = u }) ≡ Some w
       → w ≡ txn (blamed H t u)
   unfolding blamed txns
@@ -234,7 +234,7 @@ module _ (b : Lists) (H : List Event) (is : BookOf b H) (t : ℕ) (now : unfinis
       in_cascade : (v : ℕ) → is_member fell v ≡ list_any (eqb v) (cascade H t)
       in_cascade v = member_number fell v ∙ ap (list_any (eqb v)) all
 
-      -- a source that passes is to blame, and one that does not is not
+      -- a source is to blame if and only if it passes the test of the round
       same : (v : ℕ) → read_from H u v ≡ true → (read_from H u v && (eqb v t || aborted H v || list_any (eqb v) (cascade H t))) ≡ (eqb v t || is_member fell v)
       same v r = (λ j. r j && (eqb v t || sure.settled u v stands r j || list_any (eqb v) (cascade H t))) ∙ tidy (eqb v t) ∙ ap (λ (o : Bool). eqb v t || o) (sym (in_cascade v))
         where
@@ -291,7 +291,7 @@ module _ (b : Lists) (H : List Event) (is : BookOf b H) (t : ℕ) (now : unfinis
   pub round_length : (fell : List (Txn × Txn)) (k : ℕ) → fallen_numbers fell ≡ stage H t k → length (cascade H t) ≤ MOST_FALLEN → length (round_of b t fell b.unfinished) ≤ MOST_FALLEN
   round_length fell k e few = omega (arith, sym (length-fallen (round_of b t fell b.unfinished)) ∙ ap length (round_stage fell k e), stage_length H t (suc k))
 
-  -- a round that is not the last adds somebody
+  -- a round that is not the last adds a transaction
   pub round_grows : (fell : List (Txn × Txn)) (k : ℕ) → fallen_numbers fell ≡ stage H t k → length (round_of b t fell b.unfinished) ≢ length fell
       → length fell < length (round_of b t fell b.unfinished)
   round_grows fell k e ne =
@@ -302,7 +302,7 @@ module _ (b : Lists) (H : List Event) (is : BookOf b H) (t : ℕ) (now : unfinis
         | inr lt ↦ omega (arith, was, more, lt)
       ]
 
--- those who fell are those of some round
+-- those that fell are those of some round
 pub record IsStage (H : List Event) (t : ℕ) (fell : List (Txn × Txn)) : Type 0 where
   pub rounds : ℕ
   pub is : fallen_numbers fell ≡ stage H t rounds

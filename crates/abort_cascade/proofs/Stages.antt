@@ -1,4 +1,4 @@
--- The rounds of a cascade: who has fallen after k of them.
+-- The rounds of a cascade: the transactions that have fallen after k of them.
 use Rattle.std.proofs.Common.{◌≡◌, ◌⊎◌, ℕ, zero, suc, ◌+◌, ◌-◌, ◌<◌, ◌≤◌, Bool, true, false, List, [], length, filter, refl, sym, ◌∙◌, ap, subst, inl, inr, arith}
 use Rattle.std.proofs.lemmas.Bool.{cases_lt}
 use Rattle.teb_history.specs.declared.Event.{Event}
@@ -11,7 +11,7 @@ pub falls_by : List Event → ℕ → ℕ → ℕ → Bool
 falls_by H t zero u = false
 falls_by H t (suc k) u = falls H t (filter (falls_by H t k) (txns H)) u
 
--- who has
+-- the transactions that have fallen after k rounds
 unfoldable pub stage : List Event → ℕ → ℕ → List ℕ
 stage H t k = filter (falls_by H t k) (txns H)
 
@@ -45,7 +45,7 @@ module _ (H : List Event) (t : ℕ) where
   unfolding cascade
   cascade_stage = let e : begun_count H + zero ≡ begun_count H = omega arith in ap (fallen H t (begun_count H)) (sym stage_none) ∙ fallen_stage (begun_count H) zero ∙ ap (stage H t) e
 
-  -- a round that adds nobody, or somebody
+  -- a round adds no transaction, or at least one
   pub stage_step : (k : ℕ) → (stage H t k ≡ stage H t (suc k)) ⊎ (length (stage H t k) < length (stage H t (suc k)))
   unfolding stage
   stage_step k = filter_count (falls_by H t k) (falls_by H t (suc k)) (txns H) (grows k)
@@ -63,7 +63,7 @@ module _ (H : List Event) (t : ℕ) where
     | inr ge ↦ let e : (k - begun_count H) + begun_count H ≡ k = omega arith in omega (arith, ap length (past (k - begun_count H)), ap (λ (i : ℕ). length (stage H t i)) e)
   ]
 
-  -- a round that adds nobody is the last
+  -- a round that adds nothing is the last
   pub stage_last : (k : ℕ) → length (stage H t (suc k)) ≡ length (stage H t k) → (stage H t (suc k) ≡ stage H t k) × (stage H t k ≡ cascade H t)
   stage_last k n = elim (stage_step k) [
     | inr l ↦ absurd (omega arith)

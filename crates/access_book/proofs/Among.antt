@@ -1,4 +1,4 @@
--- Who stands in a list of transactions, and what an edit by his number makes of it.
+-- Membership in a list of transactions, and how an edit by number changes it.
 use Rattle.std.proofs.Common.{◌≡◌, ℕ, Bool, true, false, cond, not, ltb, eqb, ◌&&◌, ◌||◌, List, [], ◌∷◌, filter, refl, sym, ◌∙◌, ap, arith}
 use Rattle.std.proofs.lemmas.Bool.{both_ways, eqb-true, eq-eqb, ne_eqb}
 use Rattle.teb_names.specs.declared.Txn.{Txn}
@@ -26,7 +26,7 @@ among_put t (x ∷ xs) u = go (ltb x.0 t.0) (eqb x.0 t.0) refl (among_put t xs u
         twice false false = refl
     go false false q ih = or_swap (eqb t.0 u) (eqb x.0 u || is_among u xs)
 
--- the others than n
+-- the transactions other than n
 abbrev pub others : ℕ → List Txn → List Txn
 others n xs = filter (λ x. not (eqb x.0 n)) xs
 

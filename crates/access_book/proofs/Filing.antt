@@ -1,4 +1,4 @@
--- What is left to file of the accesses of a transaction that ends, one by one.
+-- The accesses of an ended transaction, filed one by one: what is left to file.
 use Rattle.std.proofs.Common.{◌≡◌, ℕ, ◌<◌, ◌≤◌, ◌+◌, Bool, true, false, cond, not, eqb, ◌&&◌, ◌||◌, List, ◌∷◌, filter, length, set, refl, sym, ◌∙◌, ap, subst, arith, inl, inr}
 use Rattle.std.specs.List.{list_any}
 use Rattle.std.proofs.Math.ListN.{length-set}
@@ -16,7 +16,7 @@ use Rattle.access_book.specs.Books.{is_among}
 use Rattle.access_book.specs.Places.{puts_here, holds_put, puts_held, AreKnown}
 use Rattle.access_book.proofs.Among.{among_put, among_others, put_cond, take_cond}
 
--- the lists ascend
+-- every list ascends
 abbrev pub AllAscend : List (List Txn) → Type 0
 AllAscend ls = (i : ℕ) → IsAscendingBy number_of (list_in ls i)
 
@@ -24,7 +24,7 @@ pub at_most_one : (b : Bool) → cond b 1 0 ≤ 1
 at_most_one true = omega arith
 at_most_one false = omega arith
 
--- t is put among the lists a, and the accesses `left` of t's `all` are still to be walked
+-- t is put into the lists a, and the accesses `left` of all accesses of t are still to be filed
 pub record IsFiling (t : ℕ) (a b : Numbered Txn) (all left : List Touch) (puts : ℕ) : Type 0 where
   pub filed : AllAscend b.lists
   pub count : length b.lists ≡ length a.lists
@@ -34,7 +34,7 @@ pub record IsFiling (t : ℕ) (a b : Numbered Txn) (all left : List Touch) (puts
   pub room : a.spare ≤ b.spare + puts
   pub lists : (i u : ℕ) → (is_among u (list_in b.lists i) || (list_any (puts_here i) left && eqb t u)) ≡ (is_among u (list_in a.lists i) || (list_any (puts_here i) all && eqb t u))
 
--- t is taken out of the lists a where it made an access of a kind
+-- t is removed from the lists a at which it made an access of a kind
 pub record IsTaking (t : ℕ) (here : ℕ → Touch → Bool) (a b : Numbered Txn) (all left : List Touch) : Type 0 where
   pub filed : AllAscend b.lists
   pub count : length b.lists ≡ length a.lists
@@ -62,7 +62,7 @@ out_twice true true false false = refl
 out_twice true false r e = refl
 out_twice false s r e = refl
 
--- a list after an edit of list p
+-- the members of list i after an edit of list p
 edit_at : (ls ls' : List (List Txn)) (p i : ℕ) (L : List Txn) (u : ℕ) (f : Bool → Bool) → ls' ≡ set ls p L → p < length ls → is_among u L ≡ f (is_among u (list_in ls p))
     → is_among u (list_in ls' i) ≡ cond (eqb i p) (f (is_among u (list_in ls i))) (is_among u (list_in ls i))
 edit_at ls ls' p i L u f e lt own = ap (λ (k : List (List Txn)). is_among u (list_in k i)) e ∙ ap (is_among u) (set_tells ls p i L lt) ∙ elim (eqb_tells i p) [
@@ -109,7 +109,7 @@ module _ (t : Txn) (a b c : Numbered Txn) (all left rest : List Touch) (puts p :
       }
 
 module _ (t : Txn) (here : ℕ → Touch → Bool) (a b c : Numbered Txn) (all left rest : List Touch) (z : Touch) (p : ℕ) where
-  -- an access of another kind
+  -- an access of another kind changes nothing
   pub taking_skip : IsTaking t.0 here a b all left → left ≡ z ∷ rest → ((i : ℕ) → here i z ≡ false) → IsTaking t.0 here a b all rest
   taking_skip h q other = record {
     filed = h.filed;

@@ -1,4 +1,4 @@
--- The lists of cells by their places, after a transaction is put among the accessors of one.
+-- The lists of cells by place, after a transaction was put among the accessors of one cell.
 use Rattle.std.proofs.Common.{◌≡◌, ℕ, suc, zero, ◌<◌, Bool, true, false, cond, eqb, ◌&&◌, ◌||◌, List, [], ◌∷◌, length, get_or, set, inl, inr, refl, sym, ◌∙◌, ap, subst, arith}
 use Rattle.std.specs.List.{IsDistinct, AllByRecursion}
 use Rattle.std.proofs.lemmas.Bool.{cases_lt}
@@ -31,11 +31,11 @@ at_all P (x ∷ xs) zero d h lt = h.0
 at_all P (x ∷ xs) (suc i) d h lt = at_all P xs i d h.1 (omega arith)
 
 module _ (cells : List Cell) (lists : List (List Txn)) (unique : IsDistinct same_cell cells) where
-  -- the list of a place is that of its cell
+  -- the list at a place is the list of the place's cell
   pub list_back : (p : ℕ) → p < length cells → list_of cells lists (cell_at cells p) ≡ list_in lists p
   list_back p lt = list_of-is cells lists (cell_at cells p) ∙ ap (list_in lists) (place_back cells p _ unique lt)
 
-  -- all lists ascend where those of all cells do
+  -- all lists ascend if the lists of all cells do
   pub all_ascend : length lists ≡ length cells → ((x : Cell) → IsAscendingBy number_of (list_of cells lists x)) → (i : ℕ) → IsAscendingBy number_of (list_in lists i)
   all_ascend paired h i = elim (cases_lt i (length cells)) [
     | inl lt ↦ subst (IsAscendingBy number_of) (list_back i lt) (h (cell_at cells i))
@@ -61,7 +61,7 @@ module _ (cells : List Cell) (lists : List (List Txn)) (c : Cell) (paired : leng
     pub put_ascends : ((x : Cell) → IsAscendingBy number_of (list_of cells lists x)) → IsAscendingBy number_of (list_in lists1 p)
     put_ascends all = subst (IsAscendingBy number_of) (sym own) (all c)
 
-    -- t is put among those of c
+    -- t is put among the accessors of c
     module _ (t : Txn) (lists' : List (List Txn)) (put : lists' ≡ set lists1 p (put_by number_of t (list_in lists1 p))) where
       put_is : (x : Cell) → list_of cells' lists' x ≡ cond (same_cell c x) (put_by number_of t (list_of cells lists c)) (list_of cells lists x)
       put_is x =

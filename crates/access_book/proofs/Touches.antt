@@ -1,4 +1,4 @@
--- The accesses that are held by their places: what they show, and what a new cell or a new access makes of them.
+-- The accesses that are stored by the places of their cells: what they show, and the effect of a new cell or a new access.
 use Rattle.std.proofs.Common.{◌≡◌, ℕ, suc, zero, ◌<◌, ◌≤◌, ◌+◌, ◌-◌, Bool, true, false, cond, eqb, ◌||◌, List, [], ◌∷◌, ◌++◌, length, map, reverse, get_or, take, set, inl, inr, refl, sym, ◌∙◌, ap, subst, arith, if◌then◌else◌, eq-eqb}
 use Rattle.std.specs.List.{list_any, count_by, IsDistinct}
 use Rattle.std.proofs.lemmas.Bool.{ne_eqb}
@@ -43,9 +43,9 @@ count_reverse q (x ∷ xs) =
     let k = sum_by-cons (λ x. cond (q x) 1 0) x [] in
     e ∙ f ∙ omega (arith, ih, g, k)
 
--- what accesses show
+-- what stored accesses show of a cell x
 module _ (cells : List Cell) (unique : IsDistinct same_cell cells) (x : Cell) where
-  -- a place tells whether its cell is x
+  -- an access's place is that of x if and only if its cell is x
   told : (p : ℕ) → p < length cells → eqb (place_in cells x) p ≡ same_cell (cell_at cells p) x
   told p lt = place_tells cells p _ x unique lt
 
@@ -83,7 +83,7 @@ last_apart xs d le =
     sym (take-append-drop (length xs - 1) xs) ∙ ap (λ (l : List _). take (length xs - 1) xs ++ l)
     (drop-cons xs (length xs - 1) d (omega (arith, le)) ∙ ap (λ (l : List _). get_or xs (length xs - 1) d ∷ l) (drop_all (suc (length xs - 1)) xs (omega (arith, n))))
 
--- the newest access is the last that is held
+-- the newest access is the last that is stored
 pub newest_first : (cells : List Cell) (zs : List Touch) (d : Touch) → 1 ≤ length zs → all_touched cells zs ≡ touched_at cells (get_or zs (length zs - 1) d) ∷ all_touched cells
     (take (length zs - 1) zs)
 newest_first cells zs d le =
@@ -126,7 +126,7 @@ known_push : (n : ℕ) (zs : List Touch) (z : Touch) → AreKnown n zs → touch
 known_push n [] z k lt = (lt, tt)
 known_push n (y ∷ zs) z k lt = (k.0, known_push n zs z k.1 lt)
 
--- the list of t becomes one with Z before it
+-- Z is put at the front of the list of t
 by_set : (ls : List (List Touched)) (i t : ℕ) (Z : Touched) → t ≡ suc i → i < length ls → (u : ℕ) → list_by (set ls i (Z ∷ list_in ls i)) u ≡ cond (eqb t u) (Z ∷ list_by ls u) (list_by ls u)
 unfolding list_by
 by_set ls i t Z e lt zero = sym (ap (λ (b : Bool). cond b (Z ∷ []) []) (ne_eqb t 0 (λ q. omega (arith, q, e))))
@@ -136,7 +136,7 @@ by_set ls i t Z e lt (suc j) = set_tells ls i j (Z ∷ list_in ls i) lt ∙ elim
   | inr p ↦ ap (λ (b : Bool). cond b (Z ∷ list_in ls i) (list_in ls j)) p.0 ∙ sym (ap (λ (b : Bool). cond b (Z ∷ list_in ls j) (list_in ls j)) (ne_eqb t (suc j) (λ q. p.1 (omega (arith, e, q)))))
 ]
 
--- a cell gets a place where it has none
+-- a cell gets a place if it has none
 module _ (cells : List Cell) (c : Cell) where
   cell_kept : (p : ℕ) → p < length cells → cell_at (with_cell cells c) p ≡ cell_at cells p
   cell_kept p lt = elim (decided (list_any (same_cell c) cells)) [
@@ -153,7 +153,7 @@ module _ (cells : List Cell) (c : Cell) where
   all_kept [] k = refl
   all_kept (zs ∷ ls) k = λ j. reverse (touched_kept zs (k zero) j) ∷ all_kept ls (λ i. k (suc i)) j
 
-  -- the cell of its place
+  -- the cell at its own place
   pub own_cell : IsDistinct same_cell cells → (p : ℕ) → p ≡ place_in cells c → cell_at (with_cell cells c) p ≡ c
   own_cell d p e =
       let cells' = with_cell cells c in
@@ -162,7 +162,7 @@ module _ (cells : List Cell) (c : Cell) where
       let tells = place_tells cells' p _ c (distinct-with_cell cells c d) (omega (arith, e, m)) in
       same_cell-true (cell_at cells' p) c (sym tells ∙ eq-eqb (place_in cells' c) p (omega (arith, own, e)))
 
-  -- and t makes an access, which shows Z
+  -- t makes an access, which shows Z
   module _ (ls ls' : List (List Touch)) (cells' : List Cell) (t i : ℕ) (z : Touch) (Z : Touched) (e : cells' ≡ with_cell cells c) (put : ls' ≡ set ls i (list_in ls i ++ z ∷ []))
       (number : t ≡ suc i) (lt : i < length ls) (known : (j : ℕ) → AreKnown (length cells) (list_in ls j)) where
     pub pushed_by : touched_at (with_cell cells c) z ≡ Z → (u : ℕ) → list_by (map (all_touched cells') ls') u ≡ cond (eqb t u) (Z ∷ list_by (map (all_touched cells) ls) u)

@@ -1,4 +1,4 @@
--- Who is in the way of an access is found among the holders of its cell.
+-- A transaction that blocks an access is found among the holders of its cell.
 use Rattle.std.proofs.Common.{◌≡◌, ℕ, zero, suc, ◌+◌, ◌<◌, ◌≤◌, Bool, true, false, cond, ◌||◌, ◌&&◌, List, [], ◌∷◌, length, drop, map, filter, find, get_or, Option, Some, None, refl, sym, ◌∙◌, ap, arith, inl, inr}
 use Rattle.std.specs.Option.{option_map}
 use Rattle.std.proofs.lemmas.Bool.{and_parts, and_from, or_cases, or_left, or_right, both_ways}
@@ -21,7 +21,7 @@ use Rattle.access_conflicts.specs.Waits.{some_txn}
 use Rattle.access_conflicts.proofs.Orderly.{unfinished_begun}
 use Rattle.access_conflicts.proofs.Noting.{typed_now}
 
--- the transaction of a hold that was found
+-- the transaction of the hold that was found, if any
 abbrev pub holder : Option Hold → Option Txn
 holder o = option_map (λ h. h.txn) o
 
@@ -40,14 +40,14 @@ same_test false true false true h = refl
 same_test false true false false h = refl
 same_test false false m write h = absurd (cc)
 
--- a holder blocks exactly where its hold is in the way
+-- a holder blocks if and only if its hold is in the way
 pub blocks_held : (S : Setup) (H : List Event) (n t : ℕ) (x : Cell) (write : Bool) (u : ℕ) → holds S H n x u ≡ true → blocks S H n t x write u ≡ in_the_way S H n t write (hold_of H x u)
 unfolding blocks
 blocks_held S H n t x write u h =
     let p = held_parts S H n x u h in
     ap (λ (b : Bool). b && meets S H n t u && (wrote H u x || (write && got H u x))) p.0 ∙ same_test (wrote H u x) (got H u x) (meets S H n t u) write p.1
 
--- who blocks is a holder
+-- a transaction that blocks is a holder
 pub blocks_holds : (S : Setup) (H : List Event) (n t : ℕ) (x : Cell) (write : Bool) (u : ℕ) → blocks S H n t x write u ≡ true → holds S H n x u ≡ true
 unfolding blocks holds
 blocks_holds S H n t x write u h =
@@ -57,7 +57,7 @@ blocks_holds S H n t x write u h =
     (elim (or_cases (wrote H u x) (write && got H u x) p.1) [ inl w ↦ or_left (wrote H u x) (got H u x) w | inr g ↦ or_right (wrote H u x) (got H u x) (and_parts _ _ g).1 ])
 
 module _ (S : Setup) (H : List Event) (n : ℕ) (x : Cell) where
-  -- a test that only holders pass, and that their holds tell, finds the same among the holds
+  -- if only holders pass a test and their holds decide it, a search among the holds finds the same transaction
   module _ (q : ℕ → Bool) (p : Hold → Bool) (only : (u : ℕ) → q u ≡ true → holds S H n x u ≡ true) (same : (u : ℕ) → holds S H n x u ≡ true → q u ≡ p (hold_of H x u)) where
     found_in : (us : List ℕ) → holder (find p (map (hold_of H x) (filter (holds S H n x) us))) ≡ some_txn (find q us)
     found_in [] = refl
@@ -73,7 +73,7 @@ module _ (S : Setup) (H : List Event) (n : ℕ) (x : Cell) where
     pub found_among_holders : holder (find p (holds_in S H n x)) ≡ some_txn (find q (txns H))
     found_among_holders = found_in (txns H)
 
-  -- each hold is of an unfinished transaction
+  -- each hold belongs to an unfinished transaction
   held_at : (us : List ℕ) (i : ℕ) (d : Hold) → i < length (map (hold_of H x) (filter (holds S H n x) us)) → unfinished H (get_or (map (hold_of H x) (filter (holds S H n x) us)) i d).txn.0 ≡ true
   held_at [] i d l = absurd (omega arith)
   held_at (u ∷ us) i d l = go (holds S H n x u) refl i (held_at us) l
@@ -89,7 +89,7 @@ module _ (S : Setup) (H : List Event) (n : ℕ) (x : Cell) where
   pub held_unfinished : (i : ℕ) (d : Hold) → i < length (holds_in S H n x) → unfinished H (get_or (holds_in S H n x) i d).txn.0 ≡ true
   held_unfinished i d l = held_at (txns H) i d l
 
--- so it has begun, with a type of the tree
+-- the transaction of a hold has begun and has a type of the tree
 pub held_typed : (f : Facts) (n : ℕ) (x : Cell) (hs : List Hold) (i : ℕ) (d : Hold) → IsOrderly (setup_of f) (events_of f) → hs ≡ holds_in (setup_of f) (events_of f) n x → i < length hs
     → IsTyped f (get_or hs i d).txn.0
 held_typed f n x hs i d o e l =
@@ -98,7 +98,7 @@ held_typed f n x hs i d o e l =
     ∙ held_unfinished (setup_of f) (events_of f) n x i d there in
     typed_now f (get_or hs i d).txn.0 o (unfinished_begun (events_of f) (get_or hs i d).txn.0 open_)
 
--- a walk along a list that looks for the first that passes
+-- a linear search for the first element that passes
 module _ {A : Type 0} (p : A → Bool) (hs : List A) where
   pub find_here : (i : ℕ) (d : A) → i < length hs → p (get_or hs i d) ≡ true → find p (drop i hs) ≡ find p hs → Some (get_or hs i d) ≡ find p hs
   find_here i d l e f = sym (ap (find p) (drop-cons hs i d l) ∙ ap (λ (b : Bool). cond b (Some (get_or hs i d)) (find p (drop (suc i) hs))) e) ∙ f

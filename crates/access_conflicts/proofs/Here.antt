@@ -1,4 +1,4 @@
--- Whether a node is on the path of a transaction, as it is told from its Began on.
+-- Whether a node is on the path of a transaction is recorded at its Began.
 use Rattle.std.proofs.Common.{◌≡◌, ◌⊎◌, ℕ, ℤ, zero, suc, ◌<◌, ◌≤◌, Bool, true, false, eqb, List, Option, [], ◌∷◌, ◌++◌, length, drop, refl, sym, ◌∙◌, ap, subst, arith, inl, inr, IsTrue, length-append}
 use Rattle.std.proofs.lemmas.Bool.{ne_eqb, eq-eqb, cases_lt, or_left}
 use Rattle.teb_history.proofs.Newest.{begun-cons}
@@ -22,13 +22,13 @@ pub here_none : (S : Setup) (n : ℕ) (here : List Bool) → here ≡ [] → Are
 unfolding begun_count
 here_none S n here e = record { counted = ap length e; told = λ t pos le. absurd (omega arith) }
 
--- whether an event begins a transaction
+-- the event begins a transaction
 abbrev pub begins : Event → Bool
 begins (Began t s k i) = true
 begins _ = false
 
 module _ (S : Setup) (P : List Event) (n : ℕ) (here : List Bool) (a : AreHere here S P n) where
-  -- an event that begins nobody leaves it so
+  -- an event that begins no transaction keeps the record valid
   pub here_kept : (e : Event) → begins e ≡ false → AreHere here S (e ∷ P) n
   unfolding begun_count on spot_of
   here_kept (Began t s k i) q = absurd (cc)
@@ -39,7 +39,7 @@ module _ (S : Setup) (P : List Event) (n : ℕ) (here : List Bool) (a : AreHere 
   here_kept (Gone t c) q = record { counted = a.counted; told = a.told }
   here_kept (Told t) q = record { counted = a.counted; told = a.told }
 
-  -- of one that begins it is told anew
+  -- a Began appends an entry to the record
   pub here_begun : (t : Txn) (s : Session) (k : Kind) (i : ℕ) (h : Bool) → t.0 ≡ suc (begun_count P) → h ≡ on S (Began t s k i ∷ P) n t.0 → AreHere (here ++ h ∷ []) S (Began t s k i ∷ P) n
   unfolding begun_count
   here_begun t s k i h new is = record {
@@ -58,7 +58,7 @@ module _ (S : Setup) (P : List Event) (n : ℕ) (here : List Bool) (a : AreHere 
             get_or_push here h false j (sym z) ∙ is ∙ ap (on S (Began t s k i ∷ P) n) m
       ]
 
-  -- what is told of an unfinished transaction
+  -- the entry of an unfinished transaction is right
   pub here_told : (t : ℕ) → IsOrderly S P → IsTrue (unfinished P t) → is_here here t ≡ on S P n t
   here_told t o u = let m = o.numbered t (unfinished_begun P t u) in a.told t m.0 m.1
 
@@ -72,7 +72,7 @@ on_kept S P n t (Done u) q = refl
 on_kept S P n t (Gone u c) q = refl
 on_kept S P n t (Told u) q = refl
 
--- at the newest event
+-- the same at the newest event
 module _ (S : Setup) (H : List Event) (n : ℕ) (e : Event) (i : H ≡ e ∷ drop 1 H) (m : MayNote S (drop 1 H) n e) (here : List Bool) (o : IsOrderly S (drop 1 H)) (a : AreHere here S (drop 1 H) n) where
   pub here_now : begins e ≡ false → AreHere here S H n
   here_now q = subst (λ (G : List Event). AreHere here S G n) (sym i) (here_kept S (drop 1 H) n here a e q)

@@ -21,11 +21,11 @@ use Rattle.access_conflicts.specs.Registered.{BookStands}
 use Rattle.hold_book.proofs.Releasing.{released_if, released_done, released_gone}
 use Rattle.access_conflicts.proofs.Orderly.{orderly_next, unfinished_begun, begun_kept, new_accesses_none}
 
--- whoever is on the path and accesses a cell may hold it
+-- an unfinished transaction with the node on its path may hold a cell
 may_hold : (S : Setup) (P : List Event) (n t : ℕ) → IsOrderly S P → IsTrue (unfinished P t) → IsTrue (on S P n t) → MayHold S P n t
 may_hold S P n t o u h = let m = o.numbered t (unfinished_begun P t u) in record { some = m.0; begun = m.1; unfinished = u; on = h }
 
--- the newest event, and what may be noted of it
+-- the newest event, which may be noted
 module _ (S : Setup) (H : List Event) (n : ℕ) (e : Event) (i : H ≡ e ∷ drop 1 H) (m : MayNote S (drop 1 H) n e) where
   pub orderly_now : IsOrderly S (drop 1 H) → IsOrderly S H
   orderly_now o = subst (λ (G : List Event). IsOrderly S G) (sym i) (orderly_next S (drop 1 H) n e m o)
@@ -39,7 +39,7 @@ module _ (S : Setup) (H : List Event) (n : ℕ) (e : Event) (i : H ≡ e ∷ dro
   pub writer_begun : (t : Txn) (x : Cell) → ((v : Option ℤ) × (e ≡ Put t x v)) → IsTrue (begun H t.0)
   writer_begun t x q = begun_now t.0 (subst (λ (d : Event). MayNote S (drop 1 H) n d) q.1 m).0
 
-  -- with the book that stands for the history with the event
+  -- a book with the holds of the history with the event is valid after the event
   registered : (b : Held) → IsOrderly S (drop 1 H) → HoldsOf b S (e ∷ drop 1 H) n → BookStands n b S H
   registered b o h = record { orderly = orderly_now o; holds = subst (λ (G : List Event). HoldsOf b S G n) (sym i) h }
 
@@ -104,6 +104,6 @@ module _ (S : Setup) (H : List Event) (n : ℕ) (e : Event) (i : H ≡ e ∷ dro
     pub told : (t : Txn) → e ≡ Told t → BookStands n b S H
     told t q = left (Told t) q tt
 
--- a transaction that has begun in the facts' history is of one of the tree's types
+-- a transaction of the history that has begun has a type of the tree
 pub typed_now : (f : Facts) (t : ℕ) → IsOrderly (setup_of f) (events_of f) → IsTrue (begun (events_of f) t) → IsTyped f t
 typed_now f t o b = record { begun = b; kind = o.typed t b }

@@ -1,4 +1,4 @@
--- An orderly history stays one, event by event.
+-- An orderly history stays orderly, event by event.
 use Rattle.std.proofs.Common.{◌≡◌, ℕ, suc, ◌<◌, ◌≤◌, Bool, true, false, cond, ◌||◌, eqb, List, [], ◌∷◌, refl, sym, ◌∙◌, ap, subst, arith, inl, inr, IsTrue}
 use Rattle.std.proofs.lemmas.Bool.{cases_Bool, or_cases, and_parts, or_right, both_ways, eqb-true}
 use Rattle.teb_names.specs.declared.Cell.{Cell}
@@ -23,7 +23,7 @@ begun_same e P u f = begun-cons e P u ∙ ap (λ (b : Bool). b || begun P u) f
 pub begun_kept : (e : Event) (P : List Event) (u : ℕ) → IsTrue (begun P u) → IsTrue (begun (e ∷ P) u)
 begun_kept e P u b = begun-cons e P u ∙ or_right (is_began u e) (begun P u) b
 
--- whoever accesses a cell by this event has begun
+-- a transaction that accesses a cell by this event has begun
 record Accesses (e : Event) (P : List Event) : Type 0 where
   put : (u : ℕ) (x : Cell) → is_put u x e ≡ true → IsTrue (begun P u)
   get : (u : ℕ) (x : Cell) → is_got u x e ≡ true → IsTrue (begun P u)
@@ -34,7 +34,7 @@ wrote_next S P e a o u x w = begun_kept e P u (elim (or_cases (is_put u x e) (wr
 got_next : (S : Setup) (P : List Event) (e : Event) → Accesses e P → IsOrderly S P → (u : ℕ) (x : Cell) → IsTrue (got (e ∷ P) u x) → IsTrue (begun (e ∷ P) u)
 got_next S P e a o u x g = begun_kept e P u (elim (or_cases (is_got u x e) (got P u x) (sym (got-cons e P u x) ∙ g)) [ inl h ↦ a.get u x h | inr h ↦ o.got u x h ])
 
--- an event that begins nothing
+-- an event that begins no transaction
 no_began : (S : Setup) (P : List Event) (e : Event) → ((u : ℕ) → is_began u e ≡ false) → begun_count (e ∷ P) ≡ begun_count P → ((u : ℕ) → kind_of (e ∷ P) u ≡ kind_of P u) → Accesses e P
     → IsOrderly S P → IsOrderly S (e ∷ P)
 no_began S P e f c k a o = record {

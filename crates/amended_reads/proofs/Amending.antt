@@ -1,4 +1,4 @@
--- Places that are amended, as the last place that passes one of several tests.
+-- Places that are amended: the result is the last place that passes one of several tests.
 use Rattle.std.proofs.Common.{◌≡◌, ℕ, suc, Bool, true, false, cond, ◌||◌, List, [], ◌∷◌, reverse, Option, Some, None, max, refl, sym, ◌∙◌, ap, ap₂, arith, inl, inr}
 use Rattle.std.specs.List.{list_any}
 use Rattle.std.proofs.lemmas.Bool.{or_parts}
@@ -9,7 +9,7 @@ use Rattle.version_chain.specs.Lists.{first_place, last_place, next_place}
 use Rattle.candidate_reads.specs.Shown.{later}
 use Rattle.amended_reads.specs.Amended.{amended, candidate_of}
 
--- the last place of a list, from whether its first element passes and the last place of the others
+-- the last place of a list, from whether its first element passes and the last place of the rest
 abbrev up : Bool → Option ℕ → Option ℕ
 up b None = cond b (Some 0) None
 up b (Some i) = Some (suc i)
@@ -41,7 +41,7 @@ up_later b c None (Some j) = later_first b j
 up_later b c (Some i) None = first_later c i
 up_later b c (Some i) (Some j) = ap Some (let e : suc (max i j) ≡ max (suc i) (suc j) = omega arith in e)
 
--- the last place that passes one of two tests is the later one of their last places
+-- the last place that passes one of two tests is the later of their last places
 last_or : (p q : ℕ → Bool) (ws : List ℕ) → last_place (λ w. p w || q w) ws ≡ later (last_place p ws) (last_place q ws)
 last_or p q [] = refl
 last_or p q (w ∷ ws) =
@@ -50,7 +50,7 @@ last_or p q (w ∷ ws) =
     ∙ up_later (p w) (q w) (last_place p ws) (last_place q ws)
     ∙ ap₂ later (sym (cons_is p w ws)) (sym (cons_is q w ws))
 
--- two tests that agree on a list
+-- two tests that agree on a list have the same last place
 pub last_same : (p q : ℕ → Bool) (ws : List ℕ) → ((w : ℕ) → In w ws → p w ≡ q w) → last_place p ws ≡ last_place q ws
 last_same p q [] h = refl
 last_same p q (w ∷ ws) h = cons_is p w ws ∙ ap₂ up (h w (inl refl)) (last_same p q ws (λ v i. h v (inr i))) ∙ sym (cons_is q w ws)
@@ -92,7 +92,7 @@ turned true false = refl
 turned false true = refl
 turned false false = refl
 
--- a list from its end passes a test where the list does
+-- a list and its reverse have an element that passes a test, or neither does
 pub any_reverse : (q : ℕ → Bool) (xs : List ℕ) → list_any q (reverse xs) ≡ list_any q xs
 any_reverse q [] = refl
 any_reverse q (x ∷ xs) =

@@ -1,4 +1,4 @@
--- What the nodes of a path show a reader together is what it sees.
+-- What the nodes of a path together show a reader is what it sees.
 use Rattle.std.proofs.Common.{◌≡◌, ◌≢◌, ℕ, zero, suc, ◌<◌, Bool, true, false, eqb, List, [], ◌∷◌, length, Option, Some, None, slice_get, refl, sym, ◌∙◌, ap, subst, arith, ℤ}
 use Rattle.std.specs.List.{list_any}
 use Rattle.std.proofs.lemmas.Bool.{and_parts, and_from}
@@ -25,7 +25,7 @@ use Rattle.amended_reads.specs.Amended.{candidate_up, nodes_up}
 use Rattle.amended_reads.specs.Laws.{AmendedIsLastSeen, AmendedIsRead, IsReadAt}
 use Rattle.amended_reads.proofs.Amending.{candidate_any, last_same, any_reverse, first_nothing}
 
--- two tests of which each passes where the other does
+-- two tests of which each implies the other are equal
 same_test : (b c : Bool) → (b ≡ true → c ≡ true) → (c ≡ true → b ≡ true) → b ≡ c
 same_test true c f g = sym (f refl)
 same_test false true f g = g refl
@@ -39,12 +39,12 @@ shows_from : (S : Setup) (H : List Event) (n : ℕ) (x : Cell) (t w : ℕ) → m
 unfolding shows
 shows_from S H n x t w h k = and_from _ _ h k
 
--- of a writer w that has a version
+-- a writer w that has a version
 module _ (S : Setup) (a : TreeFacts S) (H : List Event) (l : Lawful S H) (t w : ℕ) (x : Cell) (b : began_at H t < length H) (v : has_version H x w ≡ true) where
   writes : began_at H w < length H
   writes = writer_began S H w x l (version_parts H x w v).0
 
-  -- a node that shows it is the one where the two meet
+  -- a node that shows w is the node where the two meet, so t sees w
   shown_seen : (n : ℕ) → shows S H n x t w ≡ true → sees S H x t w ≡ true
   shown_seen n h =
       let p = shows_parts S H n x t w h in
@@ -53,7 +53,7 @@ module _ (S : Setup) (a : TreeFacts S) (H : List Event) (l : Lawful S H) (t w : 
       sees_from S H x t w other (version_parts H x w v).0 (version_parts H x w v).1
       (subst (λ (m : ℕ). sees_by (row S.tree m).control S H m x t w ≡ true) (sym e) p.1)
 
-  -- and that node shows it where t sees it
+  -- and if t sees w, that node shows it
   seen_shown : sees S H x t w ≡ true → list_any (λ n. shows S H n x t w) (nodes_up S H t) ≡ true
   seen_shown h =
       let p = sees_parts S H x t w h in
@@ -77,11 +77,11 @@ amended_is_last_seen S H lists t x a l h b =
     ∙ last_same (λ w. list_any (λ n. shows S H n x t w) (nodes_up S H t)) (sees S H x t) ws
     (λ w i. shown_is_seen S a H l t w x (begun_place H t b) (sym (h.writers x w) ∙ In_among w ws i))
 
--- a pair is what its parts are
+-- a pair is equal to the pair of its parts
 both_parts : {q : ℕ × Option ℤ} {w : ℕ} {v : Option ℤ} → w ≡ q.0 → v ≡ q.1 → q ≡ (w, v)
 both_parts e f = λ i. (sym e i, sym f i)
 
--- a place of a list of versions has a version
+-- an index in a list of versions has a version
 there_is : (vs : List Version) (i : ℕ) → i < length (writers_of vs) → (v : Version) × (slice_get vs i ≡ Some v)
 there_is [] i h = absurd (omega arith)
 there_is (v ∷ vs) zero h = (v, refl)

@@ -1,4 +1,4 @@
--- Lines are the texts of the replies, where all that they name has a name.
+-- The lines are the texts of the replies if all nodes and tables in them have names.
 use Rattle.std.proofs.Common.{◌≡◌, ℕ, zero, true, List, [], ◌∷◌, ◌++◌, length, refl, ap₂, arith}
 use Rattle.std.specs.Prelude.{All}
 use Rattle.std.specs.List.{flat_map}

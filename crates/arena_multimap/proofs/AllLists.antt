@@ -1,4 +1,4 @@
--- The lists of an arena, in their order: what an edit of one makes of all.
+-- The lists of an arena, in order, and the effect of an edit of one of them.
 use Rattle.std.proofs.Common.{◌≡◌, ℕ, ◌+◌, ◌<◌, Bool, cond, eqb, List, [], ◌∷◌, ◌++◌, length, set, sym, ◌∙◌, ap, inl, inr, arith, length-append}
 use Rattle.std.proofs.Math.ListN.{get_or-map, length-set, get_or-append}
 use Rattle.std.proofs.lemmas.List.{length-map, get_or-set_other, get_or_push, get_or_default, same_lists}
@@ -11,14 +11,14 @@ use Rattle.arena_multimap.specs.NumberedLists.{all_lists, list_in}
 use Rattle.arena_multimap.proofs.Segments.{no_list}
 
 module _ {V : Type 0} where
-  -- list i, among all
+  -- list i is element i of all lists
   pub one_of_all : (a : Arena V) (i : ℕ) → list_in (all_lists a) i ≡ list_at a i
   one_of_all a i = get_or-map (values_at a.values.items) a.segments.items i none
 
   pub length-all_lists : (a : Arena V) → length (all_lists a) ≡ lists a
   length-all_lists a = length-map a.segments.items (values_at a.values.items)
 
-  -- lists of an arena, one by one
+  -- all lists, compared one by one
   same_all : (a : Arena V) (ls : List (List V)) → length ls ≡ lists a → ((k : ℕ) → k < lists a → list_at a k ≡ list_in ls k) → all_lists a ≡ ls
   same_all a ls count each =
       let n = length-all_lists a in
@@ -26,11 +26,11 @@ module _ {V : Type 0} where
       (λ k d lt. get_or_default (all_lists a) k d [] lt ∙ one_of_all a k ∙ each k (omega (arith, lt, n)) ∙ get_or_default ls k [] d (omega (arith, lt, n, count)))
 
   module _ (a a' : Arena V) where
-    -- each list stays
+    -- every list is unchanged
     pub kept_all : lists a' ≡ lists a → ((j : ℕ) → list_at a' j ≡ list_at a j) → all_lists a' ≡ all_lists a
     kept_all count kept = same_all a' (all_lists a) (length-all_lists a ∙ sym count) (λ k lt. kept k ∙ sym (one_of_all a k))
 
-    -- an empty list becomes the last
+    -- an empty list is appended
     pub begun_all : lists a' ≡ lists a + 1 → ((j : ℕ) → list_at a' j ≡ list_at a j) → all_lists a' ≡ all_lists a ++ [] ∷ []
     begun_all count kept =
         let n = length-all_lists a in
@@ -41,7 +41,7 @@ module _ {V : Type 0} where
           | inr ge ↦ no_list a k ge ∙ sym (get_or_push (all_lists a) [] [] k (omega (arith, ge, lt, count, n)))
         ])
 
-    -- list i becomes L
+    -- list i is replaced by L
     pub edited_all : (i : ℕ) (L : List V) → lists a' ≡ lists a → ((j : ℕ) → list_at a' j ≡ cond (eqb j i) L (list_at a j)) → all_lists a' ≡ set (all_lists a) i L
     edited_all i L count edit =
         let n = length-all_lists a in

@@ -1,4 +1,4 @@
--- Lists by cell: where the list of a cell stands, and what an edit of one makes of all.
+-- Lists by cell: the place of a cell's list, and the effect of an edit of one list.
 use Rattle.std.proofs.Common.{◌≡◌, ℕ, suc, ◌+◌, ◌<◌, ◌≤◌, max, Bool, true, false, cond, not, eqb, List, [], ◌∷◌, ◌++◌, map, length, refl, sym, ◌∙◌, ap, subst, inl, inr, arith, eqb-true}
 use Rattle.std.specs.List.{list_any, IsDistinct, AllByRecursion}
 use Rattle.std.specs.Ordering.{is_eq}
@@ -18,12 +18,12 @@ use Rattle.arena_multimap.specs.Arenas.{list_at, lists, IsArena, HasRoom}
 use Rattle.arena_multimap.specs.CellMultimap.{entries_from, AreListed}
 use Rattle.arena_multimap.proofs.Segments.{known, no_list}
 
--- what is apart from a cell is so from the same cell
+-- if no cell of a list is x, none is a cell equal to x
 apart_too : (x q : Cell) (xs : List Cell) → same_cell q x ≡ true → AllByRecursion (λ y. same_cell x y ≡ false) xs → AllByRecursion (λ y. same_cell q y ≡ false) xs
 apart_too x q [] e h = tt
 apart_too x q (y ∷ xs) e h = (same_laws.congr q x y e ∙ h.0, apart_too x q xs e h.1)
 
--- whether a cell is q, told by the order
+-- whether two cells are the same, by their comparison
 tied : (x q : Cell) (b : Bool) → same_cell q x ≡ b → is_eq (cell_cmp x q) ≡ b
 tied x q b e = sym (same_cell-cell_cmp x q) ∙ same_laws.symm x q ∙ e
 
@@ -43,7 +43,7 @@ module _ {V : Type 0} where
   no_more [] ws e = e
   no_more (v ∷ vs) ws e = ap (λ (us : List V). v ∷ us) (no_more vs ws e)
 
-  -- the values of a cell are those of the list of its place
+  -- the values of a cell are those of the list at the cell's place
   found : (f : ℕ → List V) (n : ℕ) (xs : List Cell) (q : Cell) → IsDistinct same_cell xs → f (n + length xs) ≡ [] → values_of cell_cmp (entries_from f n xs) q ≡ f (n + place_in xs q)
   found f n [] q d end = sym end
   found f n (x ∷ xs) q d end = go (same_cell q x) refl (found f (suc n) xs q (IsDistinct-tail same_cell x xs d) (ap f (omega arith) ∙ end))
@@ -59,11 +59,11 @@ module _ {V : Type 0} where
           let z = ap (λ (b : Bool). cond (not b) (1 + place_in xs q) 0) e in
           one_cell x (f n) (entries_from f (suc n) xs) q false (tied x q false e) ∙ ih ∙ ap f (omega (arith, z))
 
-  -- in an arena with a list for each cell
+  -- the same for an arena with one list for each cell
   lent : (xs : List Cell) (a : Arena V) → IsDistinct same_cell xs → length xs ≡ lists a → (q : Cell) → values_of cell_cmp (entries_from (list_at a) 0 xs) q ≡ list_at a (place_in xs q)
   lent xs a unique paired q = found (list_at a) 0 xs q unique (no_list a (0 + length xs) (omega (arith, paired))) ∙ ap (list_at a) (omega arith)
 
-  -- a list that has values is one
+  -- a list that has values exists
   pub has_list : (a : Arena V) (i at : ℕ) → lists a ≤ i → at < length (list_at a i) → ⊥
   has_list a i at far lt = let l = known a.segments.items a.values.items i at lt in omega (arith, l, far)
 
@@ -74,7 +74,7 @@ module _ {V : Type 0} where
     pub place_within : (q : Cell) → place_in cells.cells q ≤ lists a
     place_within q = omega (arith, prefix_len-le-length (λ x. not (same_cell q x)) cells.cells, h.paired)
 
-    -- the same cells and lists, with at least the room
+    -- the cells and lists are unchanged, and there is at least as much room
     pub widened : (cells' : Cells) (a' : Arena V) → cells'.cells ≡ cells.cells → cells.spare ≤ cells'.spare → IsArena a' → lists a' ≡ lists a → HasRoom a' n → AreListed cells' a' n
     widened cells' a' same spare sound count room = record {
       unique = subst (IsDistinct same_cell) (sym same) h.unique;
@@ -84,17 +84,17 @@ module _ {V : Type 0} where
       room = room;
     }
 
-    -- the list of x becomes L, and the others stay
+    -- the list of x becomes L, and the others are unchanged
     module _ (a' : Arena V) (x : Cell) (L : List V) (edit : (j : ℕ) → list_at a' j ≡ cond (eqb j (place_in cells.cells x)) L (list_at a j)) where
       at_place : (j : ℕ) (b : Bool) → eqb j (place_in cells.cells x) ≡ b → list_at a' j ≡ cond b L (list_at a j)
       at_place j b e = edit j ∙ ap (λ (o : Bool). cond o L (list_at a j)) e
 
-      -- what is shown of the cells xs, where the list of each is known
+      -- the values of each of the cells xs after the edit
       told : (xs : List Cell) (q : Cell) → values_of cell_cmp (entries_from (list_at a') 0 xs) q ≡ cond (same_cell x q) L (list_at a (place_in cells.cells q))
           → values_of cell_cmp (entries_from (list_at a') 0 xs) q ≡ cond (is_eq (cell_cmp x q)) L (values_of cell_cmp (entries_from (list_at a) 0 cells.cells) q)
       told xs q e = e ∙ ap (λ (b : Bool). cond b L (list_at a (place_in cells.cells q))) (same_cell-cell_cmp x q) ∙ ap (λ (l : List V). cond (is_eq (cell_cmp x q)) L l) (sym (shown q))
 
-      -- the cells stay
+      -- the cells are unchanged
       module _ (count : lists a' ≡ lists a) where
         pub kept_listed : IsArena a' → ((m : ℕ) → HasRoom a m → HasRoom a' m) → AreListed cells a' n
         kept_listed sound room = record { unique = h.unique; paired = h.paired ∙ sym count; sound = sound; cells_room = h.cells_room; room = room n h.room }
@@ -121,7 +121,7 @@ module _ {V : Type 0} where
           pub kept_values : (q : Cell) → values_of cell_cmp (entries_from (list_at a') 0 cells.cells) q ≡ cond (is_eq (cell_cmp x q)) L (values_of cell_cmp (entries_from (list_at a) 0 cells.cells) q)
           kept_values q = told cells.cells q (lent cells.cells a' h.unique (h.paired ∙ sym count) q ∙ at_kept q)
 
-      -- x is put among the cells, unless it is there
+      -- x is added to the cells if it is not there
       module _ (cells' : Cells) (put : cells'.cells ≡ with_cell cells.cells x) (count : lists a' ≡ max (lists a) (place_in cells.cells x + 1)) where
         unique' : IsDistinct same_cell cells'.cells
         unique' = subst (IsDistinct same_cell) (sym put) (elim (decided (list_any (same_cell x) cells.cells)) [

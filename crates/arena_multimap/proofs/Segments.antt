@@ -1,4 +1,4 @@
--- Segments in one vector: what an edit of one leaves of the others.
+-- Segments of one vector: the effect of an edit of one segment on the others.
 use Rattle.std.proofs.Common.{◌≡◌, ◌≢◌, ◌⊎◌, ℕ, ◌+◌, ◌-◌, ◌<◌, ◌≤◌, Bool, cond, eqb, List, length, take, drop, get_or, refl, sym, ◌∙◌, ap, subst, inl, inr, arith, length-take, length-drop, length-append, [], ◌∷◌, ◌++◌}
 use Rattle.std.specs.List.{insert, remove, CopiedTo, SameBelow, SameFrom}
 use Rattle.std.proofs.Math.ListN.{set, length-set, get_or-append}
@@ -13,7 +13,7 @@ use Rattle.arena_multimap.specs.declared.arena.Segment.{Segment}
 use Rattle.arena_multimap.specs.Arenas.{none, segment_at, values_at, list_at, lists, IsWithin, AreApart, Lies, HasRoomFor, owed}
 
 module _ {V : Type 0} where
-  -- a part of a list, by its values
+  -- a slice is equal to a list with the same elements
   pub slice_is : (xs L : List V) (a n : ℕ) → length L ≡ n → a + n ≤ length xs → ((k : ℕ) (d : V) → k < n → get_or xs (a + k) d ≡ get_or L k d) → take n (drop a xs) ≡ L
   slice_is xs L a n len within same =
       let long = length-take n (drop a xs) in
@@ -27,7 +27,7 @@ module _ {V : Type 0} where
   pub get_or-values_at : (vs : List V) (s : Segment) (k : ℕ) (d : V) → k < s.len → get_or (values_at vs s) k d ≡ get_or vs (s.start + k) d
   get_or-values_at vs s k d lt = get_or-take s.len (drop s.start vs) k d lt ∙ get_or-drop s.start vs k d
 
-  -- of list i there is L now, and outside its segment nothing has changed
+  -- list i is now L, and nothing outside its segment has changed
   module _ (ss ss' : List Segment) (vs vs' : List V) (i : ℕ) (L : List V)
       (within : (j : ℕ) → IsWithin (segment_at ss j) (length vs))
       (apart : (j : ℕ) → j ≢ i → AreApart (segment_at ss j) (segment_at ss i))
@@ -56,7 +56,7 @@ module _ {V : Type 0} where
       | inr p ↦ other j p.1 ∙ sym (ap (λ (b : Bool). cond b L (values_at vs (segment_at ss j))) p.0)
     ]
 
--- a segment of the same place, with fewer values
+-- t replaces segment i at the same place, with no more values
 module _ (ss : List Segment) (n debt i : ℕ) (t : Segment) (h : Lies ss n debt) (lt : i < length ss)
     (start : t.start ≡ (segment_at ss i).start) (room : t.room ≡ (segment_at ss i).room) (len : t.len ≤ (segment_at ss i).len) where
   pub here_now : segment_at (set ss i t) i ≡ t
@@ -81,7 +81,7 @@ module _ (ss : List Segment) (n debt i : ℕ) (t : Segment) (h : Lies ss n debt)
     owes = omega (arith, h.owes, sum_by-set owed ss i t none lt, len, room);
   }
 
--- a list that has values is one
+-- a list that has values exists
 pub known : {V : Type 0} (ss : List Segment) (vs : List V) (i at : ℕ) → at < length (values_at vs (segment_at ss i)) → i < length ss
 known ss vs i at lt = elim (cases_lt i (length ss)) [
   | inl l ↦ l
@@ -90,11 +90,11 @@ known ss vs i at lt = elim (cases_lt i (length ss)) [
       absurd (omega (arith, z, lt, length-take (segment_at ss i).len (drop (segment_at ss i).start vs)))
 ]
 
--- a list that there is not has no values
+-- a list that does not exist has no values
 pub no_list : {V : Type 0} (a : Arena V) (i : ℕ) → lists a ≤ i → list_at a i ≡ []
 no_list a i le = ap (values_at a.values.items) (get_or_past a.segments.items i none le)
 
--- where there is room there is so for less
+-- room for more is room for less
 pub less_room : {V : Type 0} {a : Arena V} {m n : ℕ} → HasRoomFor a m n → (m' n' : ℕ) → m' ≤ m → n' ≤ n → HasRoomFor a m' n'
 less_room room m' n' fewer less = record {
   segments = omega (arith, fewer, room.segments);
@@ -102,11 +102,11 @@ less_room room m' n' fewer less = record {
   short = omega (arith, less, room.short);
 }
 
--- its segment, as it is read
+-- the segment that was read is segment i
 pub read_is : (ss : List Segment) (i : ℕ) (r : Segment) → i < length ss → r ≡ get_or ss i r → r ≡ segment_at ss i
 read_is ss i r lt e = e ∙ get_or_default ss i r none lt
 
--- what the edits of an arena make of the values of its lists; r is the segment that is edited
+-- the effect of each edit of an arena on the values of its lists; r is the segment that is edited
 module _ {V : Type 0} (ss : List Segment) (vs : List V) (debt i : ℕ) (r : Segment) (h : Lies ss (length vs) debt) (is : r ≡ segment_at ss i) where
   start_is : r.start ≡ (segment_at ss i).start
   start_is = ap (λ (s : Segment). s.start) is
@@ -120,7 +120,7 @@ module _ {V : Type 0} (ss : List Segment) (vs : List V) (debt i : ℕ) (r : Segm
   long : length (values_at vs (segment_at ss i)) ≡ r.len
   long = length-values_at vs (segment_at ss i) 0 (h.within i) ∙ sym len_is
 
-  -- a value is replaced
+  -- a value is overwritten
   pub replaced : (at p : ℕ) (v : V) → at < length (values_at vs (segment_at ss i)) → p ≡ r.start + at → (j : ℕ) → values_at (set vs p v) (segment_at ss j) ≡ cond (eqb j i)
       (set (values_at vs (segment_at ss i)) at v) (values_at vs (segment_at ss j))
   replaced at p v lt here =
@@ -139,7 +139,7 @@ module _ {V : Type 0} (ss : List Segment) (vs : List V) (debt i : ℕ) (r : Segm
             ∙ sym (get_or-set_other (values_at vs s) at k v d ne)
       ])
 
-  -- a value is put behind those of a list whose segment has room
+  -- a value is appended to a list whose segment has room
   pub appended : (p : ℕ) (v : V) (t : Segment) → i < length ss → r.len < r.room → p ≡ r.start + r.len → t.start ≡ r.start → t.len ≡ r.len + 1 → (j : ℕ)
       → values_at (set vs p v) (segment_at (set ss i t) j) ≡ cond (eqb j i) (values_at vs (segment_at ss i) ++ v ∷ []) (values_at vs (segment_at ss j))
   appended p v t lt wide here start len =
@@ -163,7 +163,7 @@ module _ {V : Type 0} (ss : List Segment) (vs : List V) (debt i : ℕ) (r : Segm
             ∙ sym (get_or-append (values_at vs s) (v ∷ []) d k (omega (arith, l, ne, n, long)))
       ])
 
-  -- a value is taken out, and those behind it move down
+  -- a value is removed, and those after it move down
   pub removed : (vs' : List V) (at p q : ℕ) (t : Segment) → at < length (values_at vs (segment_at ss i)) → p ≡ r.start + at → q ≡ r.start + r.len → t.start ≡ r.start → t.len ≡ r.len - 1
       → length vs' ≡ length vs
       → CopiedTo vs vs' (p + 1) p (q - (p + 1)) → SameBelow vs vs' p → SameFrom vs vs' (p + (q - (p + 1)))
@@ -192,7 +192,7 @@ module _ {V : Type 0} (ss : List Segment) (vs : List V) (debt i : ℕ) (r : Segm
             ∙ sym (get_or-remove_above (values_at vs s) at d k hi lt)
       ])
 
-  -- the last value v goes to another place, and those from there on move up
+  -- the last value v moves to index `at`, and those from there on move up
   pub brought : (vs' : List V) (at p q : ℕ) (v : V) (M : List V) → values_at vs (segment_at ss i) ≡ M ++ v ∷ [] → at ≤ length M → p ≡ r.start + at → q ≡ r.start + r.len - 1 → length vs' ≡ length vs
       → CopiedTo vs vs' p (p + 1) (q - p) → SameBelow vs vs' (p + 1) → SameFrom vs vs' (p + 1 + (q - p))
       → (j : ℕ) → values_at (set vs' p v) (segment_at ss j) ≡ cond (eqb j i) (insert M at v) (values_at vs (segment_at ss j))

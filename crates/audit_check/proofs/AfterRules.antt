@@ -1,4 +1,4 @@
--- Whom a transaction read from, as lines are looked at one after the other.
+-- The transactions that each transaction read from, line by line.
 use Rattle.std.proofs.Common.{◌≡◌, ℕ, ◌==◌, Bool, true, false, not, ◌&&◌, ◌||◌, if◌then◌else◌, List, [], ◌∷◌, ◌++◌, refl, ap, ◌∙◌, arith, inl, inr}
 use Rattle.std.specs.List.{list_any}
 use Rattle.std.specs.Prelude.{Vec}
@@ -59,7 +59,7 @@ module _ (p : ℕ → Bool) (t txn from : ℕ) (xs : List ℕ) where
       none true false c = refl
       none false b c = refl
 
--- one more line
+-- one more line is read
 pub commit_marked : (done done' : List Bool) (past : List Item) (i : Item) → ((t : ℕ) → is_marked done' t ≡ (is_done t i || is_marked done t)) → MarksCommits done past → MarksCommits done' (i ∷ past)
 unfolding committed
 commit_marked done done' past i marks kept = record { each = λ t. marks t ∙ ap (λ b. is_done t i || b) (kept.each t) }

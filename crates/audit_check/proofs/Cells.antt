@@ -34,7 +34,7 @@ module _ (starts starts' rows rows' : List Named) (past : List Item) (kept : Kee
     row_cells = λ x. ap (λ xs. has_row_key xs x) added ∙ has_push (row_keys rows) p x ∙ ap (λ b. same_row_key x p || b) (kept.row_cells x);
   }
 
--- keys that are compared by table and key
+-- keys are compared by table and key
 pub has_row_keys : (eq : Named → Named → Bool) → ((p q : Named) → eq p q ≡ same_row_key (row_key_view p) (row_key_view q)) → (keys : List Named) (p : Named)
     → list_any (eq p) keys ≡ has_row_key (row_keys keys) (row_key_view p)
 has_row_keys eq same [] p = refl

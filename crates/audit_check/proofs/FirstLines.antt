@@ -1,4 +1,4 @@
--- The first line that a test names, as lines are looked at one after the other.
+-- The first line that a test names, line by line.
 use Rattle.std.proofs.Common.{◌≡◌, ℕ, ◌+◌, ◌<◌, Bool, true, false, if◌then◌else◌, List, [], ◌∷◌, ◌++◌, map, reverse, length, take, drop, get_or, Option, Some, None, refl, ap, sym, ◌∙◌, arith}
 use Rattle.std.proofs.lemmas.List.{reverse-append, map-append, length-reverse, length-map, take-append-drop, take_more, length-take}
 use Rattle.audit_check.specs.Items.{Item}
@@ -13,7 +13,7 @@ views_length lines = length-reverse (map line_view lines) ∙ length-map lines l
 pub views_append : (a b : List Line) → views (a ++ b) ≡ views b ++ views a
 views_append a b = ap reverse (map-append line_view a b) ∙ reverse-append (map line_view a) (map line_view b)
 
--- one more line
+-- one more line is read
 pub views_next : (lines : List Line) (i : ℕ) (l : Line) → i < length lines → l ≡ get_or lines i l → views (take (i + 1) lines) ≡ line_view l ∷ views (take i lines)
 views_next lines i l within is = ap views (take_more lines i l within ∙ ap (λ x. take i lines ++ x ∷ []) (sym is)) ∙ views_push (take i lines) l
 

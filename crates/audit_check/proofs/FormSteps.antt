@@ -13,7 +13,7 @@ use Rattle.audit_check.specs.declared.line.RowKey.{RowKey as Named}
 use Rattle.audit_check.specs.declared.line.Line.{Line}
 use Rattle.audit_check.specs.Views.{nows, KeepsCells, Takes, ReadsLines, ReadsInto}
 
--- a text has a part
+-- a text has at least one part
 pub has_part : (xs : List (Bor (List ℕ))) (text : List ℕ) → nows xs ≡ parts_of text → 0 < length xs
 unfolding parts_of
 has_part xs text is = omega (arith, sym (length-map xs (λ x. x.now)) ∙ ap length is ∙ length-slice_split is_feed text)
@@ -82,7 +82,7 @@ pub not_read : (e : AuditError) (lines : List Line) (items : Result (List Item) 
 not_read (errors.No n w) lines items h = h
 not_read errors.OutOfMemory lines items h = tt
 
--- a text that is not too long has few parts
+-- a text that is not too long has fewer than 2 ^ 32 parts
 pub few_parts : (text : List ℕ) → length text < 2 ^ 32 - 1 → length (parts_of text) < 2 ^ 32
 unfolding parts_of
 few_parts text small = omega (arith, small, length-slice_split is_feed text, count_by-le-length is_feed text)

@@ -1,4 +1,4 @@
--- Marks and lists by number, as they grow.
+-- Marks and lists by number, and how they grow.
 use Rattle.std.proofs.Common.{◌≡◌, ℕ, ◌<◌, ◌==◌, true, false, if◌then◌else◌, List, [], ◌++◌, map, length, get_or, set, ap, sym, ◌∙◌, arith, inl, inr}
 use Rattle.std.specs.Prelude.{Vec}
 use Rattle.std.specs.declared.alloc.Global.{Global}

@@ -1,4 +1,4 @@
--- When an order lists each committed transaction once and no other.
+-- The conditions under which an order lists each committed transaction once and no other.
 use Rattle.std.proofs.Common.{◌≡◌, ℕ, zero, suc, ◌+◌, ◌<◌, ◌==◌, Bool, true, false, not, ◌&&◌, ◌||◌, List, [], ◌∷◌, ◌++◌, length, take, get_or, None, refl, ap, sym, ◌∙◌, arith, inl, inr}
 use Rattle.std.specs.List.{list_all}
 use Rattle.std.proofs.lemmas.Bool.{and_parts, and_from, and_left, and_right, or_parts, or_cases, not-false}
@@ -23,7 +23,7 @@ and_turned true false = refl
 and_turned false true = refl
 and_turned false false = refl
 
--- the commits of the lines, one by one
+-- the commits of a list of lines, line by line
 commits-append : (a b : List Item) → commits (a ++ b) ≡ commits a ++ commits b
 unfolding commits
 commits-append [] b = refl
@@ -67,7 +67,7 @@ commits_pass p (l ∷ ls) =
     ∙ ap (list_all p) (sym (commits-append (views ls) (line_view l ∷ [])))
     ∙ ap (λ (is : List Item). list_all p (commits is)) (sym (views_append (l ∷ []) ls))
 
--- one more transaction, which is a new one
+-- a list without repetitions stays so if a new transaction is appended
 distinct_push : (xs : List ℕ) (t : ℕ) → are_distinct xs ≡ true → is_among xs t ≡ false → are_distinct (xs ++ t ∷ []) ≡ true
 distinct_push [] t h new = refl
 distinct_push (x ∷ xs) t h new =
@@ -89,7 +89,7 @@ module _ (p : ℕ → Bool) (ts : List ℕ) (i t : ℕ) (within : i < length ts)
   pub among_more : (n : ℕ) → is_among (take (i + 1) ts) n ≡ (t == n || is_among (take i ts) n)
   among_more n = rw front (list_any-append (λ s. s == n) (take i ts) (t ∷ []) ∙ ap (λ b. is_among (take i ts) n || b) (or_false (t == n)) ∙ or_swap (is_among (take i ts) n) (t == n))
 
--- one that was there before, and one that does not pass
+-- a list that repeats a transaction is not distinct
 repeated : (ts : List ℕ) (i : ℕ) → i < length ts → is_among (take i ts) (get_or ts i 0) ≡ true → are_distinct ts ≡ false
 repeated [] i within again = absurd (omega (arith, within))
 repeated (x ∷ xs) zero within again = absurd (cc)
@@ -110,7 +110,7 @@ order_right H ts right =
     let listed = not-false (are_distinct_and (committed H) ts && list_all (is_among ts) (commits H)) right in
     (and_parts (are_distinct ts) (list_all (committed H) ts) (and_parts (are_distinct_and (committed H) ts) (list_all (is_among ts) (commits H)) listed).0).0
 
--- the order of lines without a wrong one has each transaction once
+-- if no line is wrong, the order lists no transaction twice
 pub order_once : (H past : List Item) → first_line (wrong_order H) past ≡ None → are_distinct (order_in past) ≡ true
 unfolding order_in
 order_once H [] none = refl

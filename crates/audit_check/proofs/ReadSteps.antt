@@ -1,4 +1,4 @@
--- The transactions of an order, run one after the other by their own lines.
+-- The transactions of an order, run one after the other by their lines.
 use Rattle.std.proofs.Common.{◌≡◌, ℕ, zero, suc, ◌+◌, ◌-◌, ◌<◌, ◌≤◌, ◌==◌, Bool, true, false, not, ◌||◌, if◌then◌else◌, List, [], ◌∷◌, ◌++◌, length, take, drop, replicate, get_or, Option, refl, ap, sym, subst, ◌∙◌, arith, inl, inr}
 use Rattle.std.specs.Prelude.{ℤ, Vec}
 use Rattle.std.specs.declared.alloc.Global.{Global}
@@ -61,7 +61,7 @@ module _ (t : ℕ) (lines : List Line) where
   own_none n over = rw (drop_all n lines over)
 
   module _ (P : ℕ → Type 0) (skip : (n : ℕ) → n < length lines → is_own t (line_at n) ≡ false → P n → P (n + 1)) where
-    -- the next line of its own
+    -- the next line of t
     abbrev pub IsNext : ℕ → List ℕ → Type 0
     IsNext i rest = (i < length lines) × (is_own t (line_at i) ≡ true) × (own_from t (i + 1) (drop (i + 1) lines) ≡ rest) × P i
 
@@ -118,7 +118,7 @@ misread_other b t T past (Order ts) h = refl
 misread_other b t T past (Row x v) h = refl
 misread_other b t T past EndItem h = refl
 
--- a line of its own
+-- a line of the transaction itself
 puts_own : (t : ℕ) (T : Values) (past : List Item) (i : Item) → is_own t i ≡ true → after_puts (i ∷ past) t T ≡ after_line i (after_puts past t T)
 unfolding after_puts
 puts_own t T past (Put u x v) h = rw h
@@ -198,7 +198,7 @@ module _ (t : ℕ) (lines : List Line) (T : Values) (wrong : List Bool) where
       off : (i : ℕ) → (i ≡ n → ⊥) → (a b : Bool) → (if i == n then a else b) ≡ b
       off i apart a b = let other : (i == n) ≡ false = grind (arith, nat_tests) in rw other
 
--- a transaction's own lines, one after the other
+-- the lines of one transaction, one after the other
 module _ (t : ℕ) (lines : List Line) (items : List ℕ) (to k : ℕ) (within : to ≤ length lines) (own : own_from t to (drop to lines) ≡ drop k items) where
   pub next_within : k < length items → get_or items k 0 < length lines
   next_within more = (to_next t lines (λ _. Unit {0}) (λ n h o p. tt) (length lines - to) to (get_or items k 0) (drop (k + 1) items) (omega (arith, within)) (own ∙ drop_more items k 0 more) tt).0
@@ -229,7 +229,7 @@ module _ (t : ℕ) (lines : List Line) (items : List ℕ) (to k : ℕ) (within :
               (subst (λ (x : Line). StepsLine (after_puts (views (take i lines)) t T) (line_view x) i wrong entries' wrong') same (steps (after_puts (views (take i lines)) t T) r.table)),
         )
 
--- the order line, from the last line on
+-- the order line is found from the last line on
 order_other : (l : Line) (past : List Item) → ((ts : Vec ℕ Global) → l ≡ line.Order ts → ⊥) → order_in (line_view l ∷ past) ≡ order_in past
 unfolding order_in
 order_other (line.Order ts) past unlike = absurd (unlike ts refl)
@@ -262,7 +262,7 @@ pub no_order : (lines : List Line) (k : ℕ) → k ≡ 0 → order_in (views (ta
 unfolding order_in
 no_order lines k none = ap (λ m. order_in (views (take m lines))) none
 
--- no line is said to be wrong at first
+-- at first no line is marked as wrong
 pub none_marked : (n i : ℕ) → is_marked (replicate n false) i ≡ false
 none_marked zero i = refl
 none_marked (suc n) zero = refl
@@ -284,7 +284,7 @@ unfolding table_after
 table_more H [] t T = refl
 table_more H (s ∷ ss) t T = table_more H ss t (after_puts H s T)
 
--- one more transaction of the order
+-- one more transaction of the order has run
 misread_more : (H : List Item) (ts us : List ℕ) (t : ℕ) (T : Values) (past : List Item) (i : Item) → T ≡ table_before H t → ((n : ℕ) → is_among us n ≡ (t == n || is_among ts n))
     → misread_or (misread_by H ts past i) past T t i ≡ misread_by H us past i
 misread_more H ts us t T past (Got u x w v) e more = elim (cases_eq u t) [

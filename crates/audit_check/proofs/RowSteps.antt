@@ -1,4 +1,4 @@
--- Which final rows have been seen, and which are missing.
+-- The final rows that have been seen, and those that are missing.
 use Rattle.std.proofs.Common.{◌≡◌, ℕ, ◌==◌, Bool, true, false, not, ◌&&◌, ◌||◌, if◌then◌else◌, List, [], ◌∷◌, ◌++◌, Option, refl, ap, sym, ◌∙◌, inl, inr}
 use Rattle.std.specs.Prelude.{ℤ, is_some}
 use Rattle.std.specs.List.{list_any}
@@ -25,7 +25,7 @@ same_row_keys x y h =
     let key : x.1 ≡ y.1 = eqb-true x.1 y.1 keys in
     ap (λ (w : List ℕ). let p : RowKey = (w, x.1) in p) table ∙ ap (λ (k : ℕ). let p : RowKey = (y.0, k) in p) key
 
--- one more row, new or not
+-- one more row, which may have been seen before
 seen_push : (rows : List Key) (p : Key) (x : RowKey) (b : Bool) → has_row_key (row_keys rows) (row_key_view p) ≡ b
     → has_row_key (row_keys (if b then rows else rows ++ p ∷ [])) x ≡ (same_row_key x (row_key_view p) || has_row_key (row_keys rows) x)
 seen_push rows p x true there = elim (cases_Bool (same_row_key x (row_key_view p))) [
@@ -79,7 +79,7 @@ row_keys_behind p (i ∷ more) past =
     or_assoc true b c = refl
     or_assoc false b c = refl
 
--- a row key of the lines passes where a line of one does
+-- the row keys of the lines have one that passes if and only if a line has one
 pub row_keys_pass : (p : RowKey → Bool) (lines : List Line) → list_any (λ l. row_key_passes p (line_view l)) lines ≡ list_any p (row_keys_in (views lines))
 row_keys_pass p [] = sym (no_row_keys p)
 row_keys_pass p (l ∷ ls) =

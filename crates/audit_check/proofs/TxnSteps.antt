@@ -1,4 +1,4 @@
--- Where transactions stand, as lines are looked at one after the other.
+-- The states of the transactions, line by line.
 use Rattle.std.proofs.Common.{◌≡◌, ℕ, ◌+◌, ◌==◌, nat_lt, nat_le, Bool, true, false, not, ◌&&◌, ◌||◌, List, [], ◌∷◌, refl, ap, sym, ◌∙◌, arith}
 use Rattle.std.proofs.lemmas.Bool.{not-false}
 use Rattle.std.proofs.lemmas.Bool.Decides.{nat_tests}
@@ -36,7 +36,7 @@ same_line (line.Order ts) b d g = refl
 same_line (line.Row p v) b d g = refl
 same_line line.End b d g = refl
 
--- nothing has begun
+-- no transaction has begun
 none_stand : KeepsStandings 0 [] [] []
 unfolding begun committed aborted begun_count
 none_stand = record { count_is = refl; begun_are = λ t. grind (arith, nat_tests); done_are = λ t. refl; gone_are = λ t. refl }
@@ -58,7 +58,7 @@ module _ (count : ℕ) (done gone : List Bool) (past : List Item) (kept : KeepsS
   unfolding unfinished
   is_open t b d g hb hd hg = rw (hb ∙ sym (kept.begun_are t), hd ∙ kept.done_are t, hg ∙ kept.gone_are t)
 
-  -- a line that begins and ends no transaction
+  -- a line that neither begins nor ends a transaction
   other : (i : Item) → ((t : ℕ) → is_began t i ≡ false) → ((t : ℕ) → is_done t i ≡ false) → ((t : ℕ) → is_gone t i ≡ false) → begun_count (i ∷ past) ≡ begun_count past
       → KeepsStandings count done gone (i ∷ past)
   unfolding begun committed aborted

@@ -1,4 +1,4 @@
--- In a lawful history nobody commits before one that it read from.
+-- In a lawful history, no transaction commits before one that it read from.
 use Rattle.std.proofs.Common.{◌≡◌, ℕ, ◌<◌, ◌==◌, Bool, true, false, not, ◌&&◌, ◌||◌, List, [], ◌∷◌, refl, ap, ◌∙◌, arith, eqb}
 use Rattle.std.specs.Prelude.{ℤ}
 use Rattle.std.specs.List.{list_any}

@@ -1,4 +1,4 @@
--- Nobody commits before one that it read from: at each commit, those that were read from have committed.
+-- No transaction commits before one that it read from: at each commit, every transaction that was read from has committed.
 use Rattle.std.proofs.Common.{◌≡◌, ℕ, suc, ◌<◌, ◌≤◌, true, false, cond, ltb, eqb, List, [], ◌∷◌, length, refl, ap, sym, ◌∙◌, arith, le_refl, lt-ltb}
 use Rattle.std.specs.Prelude.{ℤ}
 use Rattle.std.specs.List.{list_any}

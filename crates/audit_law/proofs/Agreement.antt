@@ -1,4 +1,4 @@
--- Tables by row key are the tables by cell.
+-- The tables by row key are equal to the tables by cell.
 use Rattle.std.proofs.Common.{◌≡◌, ℕ, ◌==◌, Bool, true, false, cond, if◌then◌else◌, List, [], ◌∷◌, map, Option, Some, refl, ap, sym, subst}
 use Rattle.std.specs.Prelude.{ℤ}
 use Rattle.std.specs.List.{All, IsDistinct}
@@ -18,12 +18,12 @@ use Rattle.audit_law.specs.Printed.{EventFits, RowFits, row_key_of}
 use Rattle.audit_law.proofs.Bridge.{items, starts}
 use Rattle.audit_law.proofs.RowKeys.{row_keys_same}
 
--- rows by row key
+-- the rows with row keys in place of cells
 abbrev pub by_row_key : NameBook → List (Cell × ℤ) → List (RowKey × ℤ)
 by_row_key names rows = map (λ r. (row_key_of names r.0, r.1)) rows
 
 module _ (names : NameBook) (distinct : IsDistinct bytes_eq names.tables) where
-  -- the same value in each cell
+  -- A and T have the same value in each named cell
   pub record Agree (A : Values) (T : rule.Values) : Type 0 where
     pub each : (x : Cell) → CellNamed names x → A (row_key_of names x) ≡ T x
 

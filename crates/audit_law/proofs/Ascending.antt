@@ -1,4 +1,4 @@
--- Rows in ascending order: each cell has one, and their order does not matter.
+-- Rows in ascending order: each cell has at most one, and their order does not matter.
 use Rattle.std.proofs.Common.{◌≡◌, Bool, true, false, cond, List, [], ◌∷◌, ◌++◌, reverse, Option, Some, None, refl, ap, ◌∙◌, inl, inr, ◌⊎◌}
 use Rattle.std.specs.Prelude.{ℤ}
 use Rattle.std.specs.List.{All, list_all}
@@ -15,7 +15,7 @@ use Rattle.teb_names.specs.Rows.{row_of, is_ascending}
 use Rattle.teb_names.proofs.CellOrder.{same_cell-cell_cmp}
 use Rattle.teb_names.proofs.SameCells.{same_cell-true, same_itself}
 
--- rows of other cells
+-- no row is of cell x
 abbrev pub OthersThan : Cell → List (Cell × ℤ) → Type 0
 OthersThan x [] = Unit {0}
 OthersThan x (s ∷ ss) = (same_cell x s.0 ≡ false) × OthersThan x ss
@@ -62,7 +62,7 @@ no_row y x (s ∷ ss) same h =
     let other : same_cell s.0 x ≡ false = apart_from y x s.0 same h.0 in
     rw other (no_row y x ss same h.1)
 
--- each row stands in its cell
+-- a lookup of the row's cell gives the row's value
 abbrev pub HasRow : List (Cell × ℤ) → (Cell × ℤ) → Type 0
 HasRow rows r = row_of rows r.0 ≡ Some r.1
 
@@ -70,7 +70,7 @@ or_none : (o : Option ℤ) → option_or o None ≡ o
 or_none None = refl
 or_none (Some v) = refl
 
--- the order of the rows does not matter
+-- a lookup gives the same result in the reversed list
 pub row_reverse : (rs : List (Cell × ℤ)) (x : Cell) → Apart rs → row_of (reverse rs) x ≡ row_of rs x
 row_reverse [] x h = refl
 row_reverse (r ∷ rs) x h =

@@ -1,4 +1,4 @@
--- A printed run has no line that is wrong.
+-- A printed run has no wrong line.
 use Rattle.std.proofs.Common.{◌≡◌, ℕ, true, false, List, [], ◌∷◌, ◌++◌, map, reverse, None, refl, ap, sym, subst, ◌∙◌, arith}
 use Rattle.std.specs.Prelude.{ℤ, Ok, is_some}
 use Rattle.std.specs.List.{All, list_any}
@@ -38,7 +38,7 @@ use Rattle.audit_law.proofs.Suffixes.{Along, none_along}
 use Rattle.audit_law.proofs.TextLaw.{lines_of, items_said, all_words, lines_say, text_is, map_map}
 use Rattle.audit_law.proofs.Texts.{onto, AllFit, text_back}
 
--- a test of no event
+-- the test of the order flags no event
 orders_along : (names : NameBook) (R : List (RowKey × ℤ)) (W : List Item) (H : List Event) → Along (λ P e. wrong_order W (items names R P) (event_item names e) ≡ false) H
 orders_along names R W [] = tt
 orders_along names R W (event.Began t s k i ∷ P) = (refl, orders_along names R W P)
@@ -88,7 +88,7 @@ module _ (names : NameBook) (X : Store) (a : TreeFacts X.setup) (H : List Event)
   row_fit : All (RowFits names) (reverse rows)
   row_fit = All-reverse (RowFits names) rows rows_fit
 
-  -- tables
+  -- the tables of the audit agree with those of the rules
   starting : Agree names can.names_differ (starts_in Q) (row_of X.rows)
   starting = let by = starts_agree names can.names_differ (reverse X.rows) H start_fit in record { each = λ x named. by.each x named ∙ row_reverse X.rows x first }
 
@@ -136,7 +136,7 @@ module _ (names : NameBook) (X : Store) (a : TreeFacts X.setup) (H : List Event)
       (none_missing names can.names_differ W rows (rule.table_after H ts (row_of X.rows)) ends last_is (reverse X.rows) H ts (row_items Rows ++ Order ts ∷ Q) start_fit can.events_fit has_line
       (row_keys_reported ts Q Rows))
 
-  -- the lines are read back
+  -- the printed lines are parsed back
   abbrev said : List Item
   said = items_said names can.names_are X.rows (reverse H) order rows
 

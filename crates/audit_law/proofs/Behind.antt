@@ -1,4 +1,4 @@
--- The report behind the events: the order, the final rows and the end. Of what it stands behind it changes nothing.
+-- The report after the events (order, final rows, end) does not change what is computed from the lines before it.
 use Rattle.std.proofs.Common.{◌≡◌, ℕ, Bool, false, List, [], ◌∷◌, ◌++◌, map, None, refl, ap, ◌∙◌}
 use Rattle.std.specs.Prelude.{ℤ}
 use Rattle.audit_check.specs.Items.{Item, RowKey}
@@ -9,11 +9,11 @@ use Rattle.audit_check.specs.Standings.{committed}
 use Rattle.audit_check.specs.Tables.{Values, after_puts, table_after, starts_in, order_in}
 use Rattle.audit_check.proofs.FirstLines.{first_more}
 
--- final rows, the newest first
+-- the lines of the final rows, newest first
 abbrev pub row_items : List (RowKey × ℤ) → List Item
 row_items rows = map (λ r. Row r.0 r.1) rows
 
--- all lines of a printed run, by those up to the events
+-- all lines of a printed run, Q being those up to the events
 abbrev pub with_report : List (RowKey × ℤ) → List ℕ → List Item → List Item
 with_report rows ts Q = End ∷ (row_items rows ++ Order ts ∷ Q)
 
@@ -68,7 +68,7 @@ module _ (ts : List ℕ) (Q : List Item) where
   table_reported rows [] T = refl
   table_reported rows (u ∷ us) T = ap (table_after (with_report rows ts Q) us) (puts_reported rows u T) ∙ table_reported rows us (after_puts Q u T)
 
--- a test that names no row
+-- the test flags no row line
 abbrev pub RowsRight : (List Item → Item → Bool) → List (RowKey × ℤ) → Type 0
 RowsRight wrong [] = Unit {0}
 RowsRight wrong (r ∷ rows) = ((past : List Item) → wrong past (Row r.0 r.1) ≡ false) × RowsRight wrong rows
@@ -81,7 +81,7 @@ module _ (wrong : List Item → Item → Bool) (ts : List ℕ) (Q : List Item) (
   pub none_reported : (rows : List (RowKey × ℤ)) → RowsRight wrong rows → wrong (row_items rows ++ Order ts ∷ Q) End ≡ false → first_line wrong (with_report rows ts Q) ≡ None
   none_reported rows h over = first_more wrong (row_items rows ++ Order ts ∷ Q) End (none_behind rows h) over
 
--- a test of other lines
+-- a test that flags no row line at all flags none of these
 pub all_right : (wrong : List Item → Item → Bool) → ((past : List Item) (x : RowKey) (v : ℤ) → wrong past (Row x v) ≡ false) → (rows : List (RowKey × ℤ)) → RowsRight wrong rows
 all_right wrong h [] = tt
 all_right wrong h (r ∷ rows) = (λ past. h past r.0 r.1, all_right wrong h rows)

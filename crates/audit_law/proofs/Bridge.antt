@@ -1,4 +1,4 @@
--- What the items of a history say is what the history says.
+-- The items of a history say the same as the history.
 use Rattle.std.proofs.Common.{◌≡◌, ℕ, suc, Bool, false, not, IsTrue, List, [], ◌∷◌, ◌++◌, map, None, refl, ap, sym, ◌∙◌, arith}
 use Rattle.std.specs.Prelude.{ℤ}
 use Rattle.std.specs.List.{list_any}
@@ -18,7 +18,7 @@ use Rattle.audit_law.specs.Printed.{event_item}
 use Rattle.audit_check.specs.Standings.{is_began, is_done, is_gone, begun, committed, aborted, unfinished, begun_count}
 use Rattle.audit_check.proofs.FirstLines.{first_more}
 
--- the items of starting rows
+-- the items of the starting rows
 abbrev pub starts : List (RowKey × ℤ) → List Item
 starts rows = map (λ r. Start r.0 r.1) rows
 
@@ -103,7 +103,7 @@ module _ (names : NameBook) (rows : List (RowKey × ℤ)) where
   not_of : (b c : Bool) → b ≡ c → IsTrue c → not b ≡ false
   not_of b c e h = ap not (e ∙ h)
 
-  -- a granted event is one that its transaction may do
+  -- a granted event is allowed for its transaction
   granted_right : (S : Setup) (P : List Event) (e : Event) → Granted S P e → wrong_txn (items P) (event_item names e) ≡ false
   granted_right S P (event.Began t s k i) g = let next = g.0 in let count = count_items P in grind (arith, nat_tests, next, count)
   granted_right S P (event.Got t x w v) g = not_of _ _ (unfinished_items P t.0) g.0.unfinished
@@ -118,7 +118,7 @@ module _ (names : NameBook) (rows : List (RowKey × ℤ)) where
   starts_right [] = refl
   starts_right (r ∷ s) = rw (starts_right s)
 
-  -- every event of a lawful history is one that its transaction may do
+  -- every event of a lawful history is allowed for its transaction
   pub lawful_txns : (S : Setup) (H : List Event) → Lawful S H → first_line wrong_txn (items H) ≡ None
   unfolding Lawful
   lawful_txns S [] l = starts_right rows

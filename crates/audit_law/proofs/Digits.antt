@@ -1,4 +1,4 @@
--- A number that is printed is read back.
+-- A printed number is parsed back.
 use Rattle.std.proofs.Common.{◌≡◌, ℕ, suc, ◌-◌, ◌<◌, ◌≤◌, ◌^◌, ◌==◌, true, false, nat_le, get_or, slice_index, Some, arith}
 use Rattle.std.specs.Prelude.{ℤ, pos, negsuc, decimal}
 use Rattle.std.specs.Fmt.{signed_decimal}

@@ -1,4 +1,4 @@
--- Lines of events that are printed are read back.
+-- Printed event lines are parsed back.
 use Rattle.std.proofs.Common.{◌≡◌, ℕ, zero, suc, ◌-◌, ◌^◌, ◌≤◌, ◌==◌, ◌++◌, false, map, true, List, [], ◌∷◌, Option, Some, refl, ap, ◌∙◌, arith}
 use Rattle.std.specs.List.{list_all, join_with_byte}
 use Rattle.std.specs.Prelude.{◌<◌, length, decimal, codes, ℤ, All}
@@ -27,7 +27,7 @@ use Rattle.audit_law.proofs.Digits.{number_is_word, integer_back, integer_is_wor
 use Rattle.audit_law.proofs.Pieces.{txn_back, txn_is_word, key_is_word, from_one_back, name_back, name_is_word, name_of_is_name, row_key_back, value_back, value_is_word}
 use Rattle.audit_law.proofs.Words.{is_word, words_back}
 
--- a line whose words are plain says what its words say
+-- a line of plain words is parsed as its words
 pub line_back : (w : List ℕ) (ws : List (List ℕ)) (o : Option Item) → list_all is_word (w ∷ ws) ≡ true → item_in (w ∷ ws) ≡ o → item_of (join_with_byte 32 (w ∷ ws)) ≡ o
 unfolding item_of
 line_back w ws o plain is = ap item_in (words_back w ws plain) ∙ is
@@ -38,7 +38,7 @@ words_line_back [] i plain is = absurd (cc)
 words_line_back (w ∷ ws) i plain is = line_back w ws (Some i) plain is
 
 module _ (names : NameBook) (are : AreNames names) where
-  -- the names of a cell and of a node
+  -- the names of a cell and of a node are parsed back
   table_is_name : (x : Cell) → CellFits names x → is_name (name_of names.tables x.table.0) ≡ true
   table_is_name x h = name_of_is_name names.tables x.table.0 are.tables h.0
 
@@ -63,7 +63,7 @@ module _ (names : NameBook) (are : AreNames names) where
   kind_is_word : (k : ℕ) → k < length names.types → is_word (name_of names.types k) ≡ true
   kind_is_word k h = name_is_word (name_of names.types k) (name_of_is_name names.types k are.types h)
 
-  -- causes
+  -- causes are parsed back
   cause_back : (c : Cause) → CauseFits names c → cause_in (cause_words names c) ≡ Some tt
   unfolding cause_in
   cause_back (cause.Late n r x) h = rw (node_back n h.0, txn_back r h.1, cell_back x h.2)
@@ -83,7 +83,7 @@ module _ (names : NameBook) (are : AreNames names) where
   cause_are_words cause.Asked h = refl
   cause_are_words cause.Ended h = refl
 
-  -- the words of an event
+  -- the words of an event are parsed back
   began_back : (t : Txn) (s : ℕ) (k i : ℕ) → TxnFits t → 0 < s → s ≤ SESSIONS → k < length names.types → i < 2 ^ 32
       → began_in (txn_text t ∷ decimal s ∷ name_of names.types k ∷ instance_words i) ≡ Some (Began t.0)
   began_back t s k zero fits some most kind small = rw (txn_back t fits, from_one_back SESSIONS s some most (omega (arith, most)), kind_back k kind)
@@ -126,7 +126,7 @@ module _ (names : NameBook) (are : AreNames names) where
   pub event_line_back : (e : Event) → EventFits names e → item_of (join_with_byte 32 (event_words names e)) ≡ Some (event_item names e)
   event_line_back e h = words_line_back (event_words names e) (event_item names e) (event_are_words e h) (event_back e h)
 
-  -- the words of a row, on a line that begins with this word
+  -- the words of a row are parsed back
   row_back : (item : RowKey → ℤ → Item) (x : Cell) (v : ℤ) → CellFits names x → IntegerFits v
       → row_in item (name_of names.tables x.table.0 ∷ decimal x.key ∷ signed_decimal v ∷ []) ≡ Some (item (row_key_of names x) v)
   row_back item x v cell value = rw (cell_back x cell, integer_back v value)
@@ -135,7 +135,7 @@ module _ (names : NameBook) (are : AreNames names) where
       → list_all is_word (name_of names.tables x.table.0 ∷ decimal x.key ∷ signed_decimal v ∷ []) ≡ true
   row_are_words x v cell value = rw (table_is_word x cell, key_is_word x.key cell.1, integer_is_word v value)
 
-  -- lines of rows
+  -- the lines of rows are parsed back
   pub start_line_back : (x : Cell) (v : ℤ) → RowFits names (x, v)
       → item_of (join_with_byte 32 (codes "start" ∷ cell_words names x ++ signed_decimal v ∷ [])) ≡ Some (Start (row_key_of names x) v)
   unfolding item_in
@@ -146,7 +146,7 @@ module _ (names : NameBook) (are : AreNames names) where
   unfolding item_in later_item
   row_line_back x v h = line_back (codes "row") (cell_words names x ++ signed_decimal v ∷ []) _ (row_are_words x v h.0 h.1) (row_back Row x v h.0 h.1)
 
--- the order
+-- the line of the order is parsed back
 txns_back : (ts : List Txn) → All TxnFits ts → txns_at (map txn_text ts) ≡ Some (map (λ t. t.0) ts)
 unfolding txns_at
 txns_back [] h = refl

@@ -1,4 +1,4 @@
--- The events of a lawful history whose numbers are in range, and whose names are there, can be printed.
+-- The events of a lawful history can be printed if their numbers are in range and the names exist.
 use Rattle.std.proofs.Common.{◌<◌, ◌≤◌, List, [], ◌∷◌, reverse, subst, arith}
 use Rattle.std.specs.Prelude.{IsTrue, leb, ◌&&◌}
 use Rattle.std.specs.List.{All}
@@ -53,7 +53,7 @@ module _ (names : NameBook) where
       All-cons (EventFits names) e P (event_fits S P e lawful.0 (All-head (EventNamed names) e P named) (All-head EventInRange e P range))
       (all_fit S P lawful.1 (All-tail (EventNamed names) e P named) (All-tail EventInRange e P range))
 
-  -- from what is so of the events from the oldest on
+  -- the same facts about the events in oldest-first order suffice
   pub events_fit : (S : Setup) (H : List Event) → Lawful S H → All (EventNamed names) (reverse H) → All EventInRange (reverse H) → All (EventFits names) H
   events_fit S H lawful named range =
       all_fit S H lawful (subst (All (EventNamed names)) (reverse-reverse H) (All-reverse (EventNamed names) (reverse H) named))

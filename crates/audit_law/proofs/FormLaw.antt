@@ -1,4 +1,4 @@
--- A printed run has its form: the parts in their order, and no cell twice.
+-- A printed run is well-formed: its parts are in order, and no cell occurs twice in a part.
 use Rattle.std.proofs.Common.{◌≡◌, ℕ, ◌≤◌, Bool, true, false, not, ◌&&◌, List, [], ◌∷◌, ◌++◌, map, refl, ap, ◌∙◌, arith}
 use Rattle.std.specs.Prelude.{ℤ}
 use Rattle.std.specs.List.{All, IsDistinct, list_any}
@@ -31,7 +31,7 @@ module _ (names : NameBook) (distinct : IsDistinct bytes_eq names.tables) where
   abbrev pub row_item : Cell × ℤ → Item
   row_item r = Row (row_key_of names r.0) r.1
 
-  -- none of these rows has had a line
+  -- none of these rows has a line yet
   abbrev Fresh : (RowKey → Item → Bool) → List Item → List (Cell × ℤ) → Type 0
   Fresh is past [] = Unit {0}
   Fresh is past (r ∷ rs) = (list_any (is (row_key_of names r.0)) past ≡ false) × Fresh is past rs
@@ -97,7 +97,7 @@ module _ (names : NameBook) (distinct : IsDistinct bytes_eq names.tables) where
   part_of_starts [] past low = low
   part_of_starts (r ∷ rs) past low = part_of_starts rs (start_item r ∷ past) (omega arith)
 
-  -- the report
+  -- the lines of the report fit
   rows_from : (rs : List (Cell × ℤ)) (past : List Item) → All (RowFits names) rs → Apart rs → 2 ≤ part_after past → part_after past ≤ 3 → Fresh is_row past rs
       → AllFit past (map row_item rs ++ End ∷ [])
   rows_from [] past fit apart low high fresh = (end_fits (part_after past) low high, tt)
@@ -126,7 +126,7 @@ module _ (names : NameBook) (distinct : IsDistinct bytes_eq names.tables) where
       kept [] f = tt
       kept (s ∷ ss) f = (f.0, kept ss f.1)
 
-  -- what is before the report has no row line
+  -- no line so far is a final row
   abbrev NoRow : List Item → Type 0
   NoRow past = (x : RowKey) → list_any (is_row x) past ≡ false
 

@@ -1,4 +1,4 @@
--- In a text that has its form the order stands, and where it is right it lists the transactions that commit.
+-- A well-formed text has the order line, and if that is right it lists exactly the transactions that commit.
 use Rattle.std.proofs.Common.{◌≡◌, ℕ, ◌≤◌, ◌==◌, Bool, true, false, nat_le, nat_lt, not, if◌then◌else◌, ◌&&◌, List, [], ◌∷◌, length, Option, Some, None, refl, ap, sym, subst, ◌∙◌, arith, inl, inr}
 use Rattle.std.specs.Prelude.{Result, Ok, Err}
 use Rattle.std.specs.List.{list_all}
@@ -16,7 +16,7 @@ use Rattle.audit_check.specs.Standings.{committed, commits}
 use Rattle.audit_check.specs.Tables.{order_in}
 use Rattle.audit_check.proofs.FirstLines.{first_parts}
 
--- each item fits behind those before it
+-- each item may follow the items before it
 abbrev Fits : List Item → Type 0
 Fits [] = Unit {0}
 Fits (i ∷ past) = (fits past i ≡ true) × Fits past
@@ -50,7 +50,7 @@ items_fit past (l ∷ m ∷ ls) H e f =
     let (i, says, more) = next_ok (fitting past l) (next_line past) (λ i. items_from (i ∷ past) (m ∷ ls)) H e in
     items_fit (i ∷ past) (m ∷ ls) H more (fitting_fits past l i says, f)
 
--- a row and the end stand behind the order
+-- a row or the end follows the order
 row_behind : (p : ℕ) (b : Bool) → (may_follow p 3 && b) ≡ true → 2 ≤ p
 row_behind p b h =
     let (first, more) = and_parts (may_follow p 3) b h in

@@ -1,4 +1,4 @@
--- The serial order lists each committed transaction once and no other.
+-- The serial order lists each committed transaction once and no other transaction.
 use Rattle.std.proofs.Common.{◌≡◌, ◌≢◌, ℕ, ◌==◌, true, false, not, ◌&&◌, List, [], ◌∷◌, refl, sym, ◌∙◌, inl, inr}
 use Rattle.std.specs.Prelude.{ℤ}
 use Rattle.std.specs.List.{list_all}
@@ -29,7 +29,7 @@ distinct_pairs : (ts : List ℕ) → Pairs (λ t u. t ≢ u) ts → are_distinct
 distinct_pairs [] h = refl
 distinct_pairs (t ∷ ts) h = and_from (not (is_among ts t)) (are_distinct ts) (not_from_false (is_among ts t) (not_among ts t h.0)) (distinct_pairs ts h.1)
 
--- whoever commits has committed
+-- a transaction in `commits` is committed
 commits_in : (Q : List Item) (t : ℕ) → In t (commits Q) → committed Q t ≡ true
 unfolding commits committed
 commits_in [] t h = absurd h

@@ -1,4 +1,4 @@
--- Lists from the oldest on, and the same from the newest on.
+-- Lists in oldest-first order, and the same lists newest first.
 use Rattle.std.proofs.Common.{◌≡◌, List, [], ◌∷◌, ◌++◌, map, reverse, refl, ap, sym, ◌∙◌, append_assoc}
 use Rattle.std.specs.List.{All}
 use Rattle.std.proofs.lemmas.List.{reverse-append, map-append}

@@ -1,4 +1,4 @@
--- Names, transactions, cells and values that are printed are read back.
+-- Printed names, transactions, cells and values are parsed back.
 use Rattle.std.proofs.Common.{◌≡◌, ℕ, zero, suc, ◌-◌, ◌<◌, ◌≤◌, ◌^◌, ◌==◌, true, false, ◌&&◌, nat_le, List, [], ◌∷◌, length, slice_index, Option, Some, None, refl, arith}
 use Rattle.std.specs.Prelude.{ℤ, pos, negsuc, decimal, codes}
 use Rattle.std.specs.Fmt.{signed_decimal}
@@ -17,7 +17,7 @@ use Rattle.audit_check.specs.Reading.{txn_at, name_at, row_key_at, value_at, num
 use Rattle.audit_law.proofs.Words.{is_plain, is_word}
 use Rattle.audit_law.proofs.Digits.{natural_back, integer_back, first_is_digit, number_is_word, integer_is_word}
 
--- a transaction
+-- a transaction is parsed back
 pub txn_back : (t : Txn) → TxnFits t → txn_at (txn_text t) ≡ Some t.0
 unfolding txn_at
 txn_back t h = natural_back (2 ^ 32 - 1) t.0 (omega (arith, h)) (omega (arith, h))
@@ -25,21 +25,21 @@ txn_back t h = natural_back (2 ^ 32 - 1) t.0 (omega (arith, h)) (omega (arith, h
 pub txn_is_word : (t : Txn) → TxnFits t → is_word (txn_text t) ≡ true
 txn_is_word t h = number_is_word t.0 (omega (arith, h))
 
--- a key
+-- a key is parsed back
 pub key_back : (k : ℕ) → k < 2 ^ 32 → number_at (decimal k) ≡ Some k
 key_back k h = natural_back (2 ^ 32 - 1) k (omega (arith, h)) (omega (arith, h))
 
 pub key_is_word : (k : ℕ) → k < 2 ^ 32 → is_word (decimal k) ≡ true
 key_is_word k h = number_is_word k (omega (arith, h))
 
--- a number from 1 on
+-- a number from 1 to `most` is parsed back
 pub from_one_back : (most n : ℕ) → 0 < n → n ≤ most → n < 2 ^ 64 → from_one most (decimal n) ≡ Some n
 unfolding from_one
 from_one_back most n some within small =
     let other : (n == 0) ≡ false = grind (arith, nat_tests) in
     rw (natural_back most n within small, other)
 
--- a name
+-- a name is parsed back
 name_byte_is_plain : (b : ℕ) → is_name_byte b ≡ true → is_plain b ≡ true
 name_byte_is_plain b h = grind (arith, nat_tests)
 
@@ -62,12 +62,12 @@ pub name_back : (w : List ℕ) → is_name w ≡ true → name_at w ≡ Some w
 unfolding name_at
 name_back w h = rw h
 
--- a cell
+-- a cell is parsed back
 pub row_key_back : (names : NameBook) (x : Cell) → is_name (name_of names.tables x.table.0) ≡ true → x.key < 2 ^ 32
     → row_key_at (name_of names.tables x.table.0) (decimal x.key) ≡ Some (row_key_of names x)
 row_key_back names x named small = rw (name_back (name_of names.tables x.table.0) named, key_back x.key small)
 
--- a value
+-- a value is parsed back
 not_none : (w : List ℕ) → (slice_index w 0 == 110) ≡ false → bytes_eq w (codes "none") ≡ false
 not_none [] h = refl
 not_none (b ∷ bs) h = rw h

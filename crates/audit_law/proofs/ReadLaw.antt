@@ -1,4 +1,4 @@
--- What a transaction of the order reads is what the table then holds.
+-- A transaction of the order reads what the table holds at its turn.
 use Rattle.std.proofs.Common.{◌≡◌, ℕ, ◌==◌, true, false, ◌&&◌, ◌||◌, List, [], ◌∷◌, Option, Some, None, refl, ap, sym, subst, ◌∙◌, inl, inr}
 use Rattle.std.specs.Prelude.{ℤ}
 use Rattle.std.specs.List.{All, IsDistinct}
@@ -28,7 +28,7 @@ pub itself : (v : Option ℤ) → same_value v v ≡ true
 itself None = refl
 itself (Some n) = same_int n
 
--- the reads of a transaction of the order are right from the table before it
+-- if the order replays right, the reads of each of its transactions are right from the table before it
 pub reads_of : (H : List Event) (order : List ℕ) (T : rule.Values) (t : ℕ) → rule.ReplaysRight H order T → is_among order t ≡ true → rule.GotsRight H t (rule.table_after H (before t order) T)
 unfolding rule.ReplaysRight rule.table_after before
 reads_of H [] T t right among = absurd (cc)

@@ -1,4 +1,4 @@
--- What is reported of a history whose numbers fit has numbers that fit: it was put, or stood there at the start.
+-- If the numbers of a history fit, so do those of its report: each value was put or was there at the start.
 use Rattle.std.proofs.Common.{◌≡◌, ℕ, ◌<◌, ◌^◌, ◌==◌, Bool, true, false, cond, ◌&&◌, eqb, List, [], ◌∷◌, map, Option, Some, None, unwrap_or, refl, sym, ◌∙◌, subst, inl, inr}
 use Rattle.std.specs.Prelude.{ℤ}
 use Rattle.std.specs.List.{All}
@@ -24,7 +24,7 @@ use Rattle.audit_law.proofs.Ascending.{Apart, HasRow, rows_stand}
 use Rattle.audit_law.proofs.Bridge.{items, committed_items}
 
 module _ (names : NameBook) where
-  -- whoever is done has a number that fits
+  -- the number of a committed transaction fits
   done_fits : (H : List Event) (t : ℕ) → All (EventFits names) H → committed (items names [] H) t ≡ true → t < 2 ^ 32
   unfolding committed
   done_fits [] t fit h = absurd (cc)
@@ -48,7 +48,7 @@ module _ (names : NameBook) where
   pub order_fits : (X : Store) (H : List Event) (order : List Txn) → All (EventFits names) H → Serializes X H (map (λ t. t.0) order) → All TxnFits order
   order_fits X H order fit serial = listed_fit H (map (λ t. t.0) order) order fit (λ t i. (serial.each t).0 i) (λ t i. i)
 
-  -- a row that stands in such rows fits
+  -- a row that a lookup finds in rows that fit also fits
   row_fits : (rows : List (Cell × ℤ)) (x : Cell) (v : ℤ) → All (RowFits names) rows → row_of rows x ≡ Some v → RowFits names (x, v)
   row_fits [] x v fit e = absurd (cc)
   row_fits (r ∷ rs) x v fit e = here (row_fits rs x v (All-tail (RowFits names) r rs fit)) (same_cell r.0 x) refl e
@@ -59,7 +59,7 @@ module _ (names : NameBook) where
           subst (λ (w : ℤ). RowFits names (x, w)) value (subst (λ (y : Cell). RowFits names (y, r.1)) (same_cell-true r.0 x s) (All-head (RowFits names) r rs fit))
       here more false s p = more p
 
-  -- so does a value that was put
+  -- a value that was put fits
   put_fits : (H : List Event) (t : ℕ) (x : Cell) (v : Option ℤ) → All (EventFits names) H → last_put H t x ≡ Some v → CellFits names x × ValueFits v
   unfolding last_put
   put_fits [] t x v fit e = absurd (cc)

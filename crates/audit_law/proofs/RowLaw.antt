@@ -27,7 +27,7 @@ use Rattle.audit_law.proofs.RowKeys.{row_keys_same}
 use Rattle.audit_law.proofs.ReadLaw.{itself}
 
 module _ (names : NameBook) (distinct : IsDistinct bytes_eq names.tables) where
-  -- row keys that pass a test which no named cell passes
+  -- no row key of a line passes a test that no named cell passes
   module _ (p : RowKey → Bool) (none : (x : Cell) → CellNamed names x → p (row_key_of names x) ≡ false) where
     no_start : (rows : List (Cell × ℤ)) → All (RowFits names) rows → list_any p (row_keys_in (starts (by_row_key names rows))) ≡ false
     unfolding row_keys_in
@@ -49,7 +49,7 @@ module _ (names : NameBook) (distinct : IsDistinct bytes_eq names.tables) where
     no_row_key rows (event.Gone t c ∷ P) fit fits = no_row_key rows P fit (All-tail (EventFits names) (event.Gone t c) P fits)
     no_row_key rows (event.Told t ∷ P) fit fits = no_row_key rows P fit (All-tail (EventFits names) (event.Told t) P fits)
 
-  -- a cell that has a row has a line
+  -- a cell with a final row has a line
   pub lined : (x : Cell) (rows : List (Cell × ℤ)) (Z : List Item) → CellNamed names x → All (RowFits names) rows → is_some (row_of rows x) ≡ true
       → list_any (is_row (row_key_of names x)) (row_items (by_row_key names rows) ++ Z) ≡ true
   lined x [] Z named fit has = absurd (cc)
@@ -77,7 +77,7 @@ module _ (names : NameBook) (distinct : IsDistinct bytes_eq names.tables) where
           rows_right rs (All-tail (RowFits names) r rs fit) (All-tail (HasRow rows) r rs have),
         )
 
-    -- nothing is missing
+    -- no row is missing at the end
     pub none_missing : (starting : List (Cell × ℤ)) (H : List Event) (ts : List ℕ) (past : List Item) → All (RowFits names) starting → All (EventFits names) H
         → ((x : Cell) → CellNamed names x → is_some (row_of rows x) ≡ true → list_any (is_row (row_key_of names x)) past ≡ true)
         → row_keys_in W ≡ row_keys_in (items names (by_row_key names starting) H) → wrong_row W past End ≡ false

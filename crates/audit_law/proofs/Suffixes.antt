@@ -1,4 +1,4 @@
--- A test that no event of a history meets names no line of it.
+-- If a test flags no event of a history, it flags no line of the history.
 use Rattle.std.proofs.Common.{◌≡◌, Bool, false, List, [], ◌∷◌, None, refl}
 use Rattle.std.specs.Prelude.{ℤ}
 use Rattle.teb_names.specs.declared.naming.NameBook.{NameBook}
@@ -10,7 +10,7 @@ use Rattle.audit_check.proofs.FirstLines.{first_more}
 use Rattle.audit_law.specs.Printed.{event_item}
 use Rattle.audit_law.proofs.Bridge.{items, starts}
 
--- P holds of each event and what is before it
+-- P holds for each event and the history before it
 abbrev pub Along : (List Event → Event → Type 0) → List Event → Type 0
 Along P [] = Unit {0}
 Along P (e ∷ H) = P H e × Along P H

@@ -1,4 +1,4 @@
--- A printed run is read back: its lines say its items.
+-- A printed run is parsed back into its items.
 use Rattle.std.proofs.Common.{◌≡◌, ℕ, true, List, [], ◌∷◌, ◌++◌, map, Some, refl, ap, sym, ◌∙◌, append_assoc}
 use Rattle.std.specs.Prelude.{ℤ, codes}
 use Rattle.std.specs.Fmt.{signed_decimal}
@@ -49,7 +49,7 @@ module _ (names : NameBook) (are : AreNames names) where
   abbrev pub order_words : List Txn → Words
   order_words order = codes "order" ∷ map txn_text order
 
-  -- all lines, and what they say
+  -- all lines, and the items that they say
   abbrev pub lines_of : List (Cell × ℤ) → List Event → List Txn → List (Cell × ℤ) → List Words
   lines_of starts es order rows = map start_words starts ++ (map (event_words names) es ++ (order_words order ∷ (map row_words rows ++ (codes "end" ∷ []) ∷ [])))
 
@@ -108,7 +108,7 @@ module _ (names : NameBook) (are : AreNames names) where
     pub lines_say : Say (map join (lines_of starts es order rows)) (items_said starts es order rows)
     lines_say = rw (sym joined_is) said
 
-    -- the text is made of these lines
+    -- the text is the concatenation of these lines
     pub text_is : flat_map line_text (lines_of starts es order rows) ≡ starts_text names starts ++ (flat_map (event_text names) es ++ report_text names order rows)
     text_is =
         flat_map-append line_text (map start_words starts) (map (event_words names) es ++ (order_words order ∷ (map row_words rows ++ (codes "end" ∷ []) ∷ [])))

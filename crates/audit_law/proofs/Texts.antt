@@ -1,4 +1,4 @@
--- A whole text that is printed is read back.
+-- A whole printed text is parsed back.
 use Rattle.std.proofs.Common.{◌≡◌, ℕ, Bool, true, false, not, List, [], ◌∷◌, ◌++◌, map, Some, refl, ap, ◌∙◌, arith, append_assoc}
 use Rattle.std.specs.Prelude.{Ok}
 use Rattle.std.specs.List.{slice_split, join_with_byte, list_all, flat_map, All}
@@ -36,7 +36,7 @@ inner_line (w ∷ v ∷ ws) h =
 no_feed : (l : List ℕ) → list_all is_inner l ≡ true → All (λ b. is_feed b ≡ false) l
 no_feed l h = All-weaker (λ b. is_inner b ≡ true) (λ b. is_feed b ≡ false) (λ b e. not-true (is_feed b) e) l (AllPass-from_list_all is_inner l h)
 
--- the lines of a text are what stands before its line feeds
+-- the parts of a text, split at line feeds, are its lines
 pub parts_back : (wss : List (List (List ℕ))) → list_all are_words wss ≡ true → parts_of (flat_map line_text wss) ≡ map (join_with_byte 32) wss ++ [] ∷ []
 unfolding parts_of
 parts_back [] h = refl
@@ -46,18 +46,18 @@ parts_back (ws ∷ wss) h =
     ∙ slice_split_at is_feed (join_with_byte 32 ws) 10 (flat_map line_text wss) (no_feed (join_with_byte 32 ws) (inner_line ws here)) refl
     ∙ ap (λ (l : List (List ℕ)). join_with_byte 32 ws ∷ l) (parts_back wss more)
 
--- these lines say this
+-- each line says the item at its place
 abbrev pub Say : List (List ℕ) → List Item → Type 0
 Say [] [] = Unit {0}
 Say (l ∷ ls) (i ∷ is) = (item_of l ≡ Some i) × Say ls is
 Say _ _ = ⊥
 
--- each item fits behind those before it
+-- each item may follow the items before it
 abbrev pub AllFit : List Item → List Item → Type 0
 AllFit past [] = Unit {0}
 AllFit past (i ∷ is) = (fits past i ≡ true) × AllFit (i ∷ past) is
 
--- the items behind those so far, the newest first
+-- the items appended to those so far, newest first
 abbrev pub onto : List Item → List Item → List Item
 onto past [] = past
 onto past (i ∷ is) = onto (i ∷ past) is
@@ -79,7 +79,7 @@ items_back past (l ∷ ls) (i ∷ is) says fit ends =
 items_back past [] (i ∷ is) says fit ends = absurd says
 items_back past (l ∷ ls) [] says fit ends = absurd says
 
--- a printed text says its items, where they stand in the form of a run
+-- a printed text is parsed into its items if they are well-formed
 pub text_back : (wss : List (List (List ℕ))) (is : List Item) → list_all are_words wss ≡ true → Say (map (join_with_byte 32) wss) is → AllFit [] is → part_after (onto [] is) ≡ 4
     → items_of (flat_map line_text wss) ≡ Ok (onto [] is)
 unfolding items_of

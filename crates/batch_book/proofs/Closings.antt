@@ -1,4 +1,4 @@
--- Whether a batch closed before another started, told by where it closed.
+-- Whether a batch closed before another started is known from where it closed.
 use Rattle.std.proofs.Common.{◌≡◌, ℕ, ◌≤◌, Bool, true, false, cond, ltb, List, [], ◌∷◌, length, Option, Some, None, refl, sym, ◌∙◌, ap, arith, le-ltb, inl, inr}
 use Rattle.std.proofs.lemmas.Bool.{ltb-false, both_ways, cases_Bool}
 use Rattle.teb_history.specs.declared.Event.{Event}
@@ -24,7 +24,7 @@ pub closed_before : (S : Setup) (H : List Event) (n u t k s : ℕ) → Some k �
 unfolding closing
 closed_before S H n u t k s h e = closed (came H (close S H n u)) (close S H n u) s k (sym h) ∙ ap (ltb (close S H n u)) e
 
--- a batch that has not closed closes later than all that has happened
+-- the close of a batch that has not closed is later than every event of the history
 pub open_late : (S : Setup) (H : List Event) (n u : ℕ) → closing S H n u ≡ None → length H ≤ close S H n u
 unfolding closing
 open_late S H n u h = ltb-false _ _ (not_closed (came H (close S H n u)) (close S H n u) h)
@@ -39,7 +39,7 @@ closes_as S H n u t b = go (closing S H n u) refl
     go (Some k) e = closed_before S H n u t k (start S H n t) (sym e) refl
     go None e = still_open S H n u t (sym e) b
 
--- the batch of one that is unfinished has not closed
+-- the batch of an unfinished transaction has not closed
 pub unfinished_open : (S : Setup) (H : List Event) (n u : ℕ) → IsNumbered H → unfinished H u ≡ true → on S H n u ≡ true → closing S H n u ≡ None
 unfolding IsNumbered
 unfinished_open S [] n u k h o = absurd (both_ways _ (begun_none u) (unfinished_parts [] u h).0)

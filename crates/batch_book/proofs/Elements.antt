@@ -107,7 +107,7 @@ module _ {A : Type 0} where
   Has-none p [] f = refl
   Has-none p (y ∷ xs) f = λ i. f y (inl refl) i || Has-none p xs (λ x h. f x (inr h)) i
 
-  -- lists that ascend
+  -- a list stays ascending if a greater element is appended
   above_push : (key : A → ℕ) (n : ℕ) (a : A) (xs : List A) → AllAbove key n xs → n < key a → AllAbove key n (xs ++ a ∷ [])
   above_push key n a [] h l = (l, tt)
   above_push key n a (x ∷ xs) h l = (h.0, above_push key n a xs h.1 l)
@@ -121,7 +121,7 @@ module _ {A : Type 0} where
   above_Has key n x [] a h = absurd h
   above_Has key n x (y ∷ xs) a h = elim h [ inl q ↦ subst (λ (z : A). n < key z) q a.0 | inr j ↦ above_Has key n x xs a.1 j ]
 
-  -- of each key there is one
+  -- an ascending list has at most one element with each key
   pub one_Has : (key : A → ℕ) (x y : A) (xs : List A) → IsAscendingBy key xs → Has x xs → Has y xs → key x ≡ key y → x ≡ y
   unfolding Has
   one_Has key x y [] a h k e = absurd h
@@ -136,7 +136,7 @@ module _ {A : Type 0} where
     ]
   ]
 
-  -- what a search finds in one
+  -- the place that a search finds holds the element with the key
   pub placed : (key : A → ℕ) (n i : ℕ) (d : A) (xs : List A) → place_of key xs n ≡ Ok i → find (λ x. eqb (key x) n) xs ≡ Some (get_or xs i d)
   placed key n i d [] h = absurd (cc)
   placed key n i d (x ∷ xs) h = elim (cases_Bool (ltb (key x) n)) [

@@ -12,7 +12,7 @@ use Rattle.batch_book.specs.Fields.{no_batch, batch_at, member_number, row_shown
 use Rattle.batch_book.proofs.Elements.{Has-push_cases, Has-append_left, Has-push, found_Has, unfound_Has, All-Has, ascending_push}
 use Rattle.batch_book.proofs.Idle.{row_path, running_path}
 
--- what a write leaves of a batch
+-- a write that keeps a field of a batch keeps that field of all batches
 pub set_keeps : {Y : Type 0} (f : Batch → Y) (B : List Batch) (b : ℕ) (x : Batch) → b < length B → f x ≡ f (get_or B b no_batch) → (i : ℕ) → f (get_or (set B b x) i no_batch) ≡ f (get_or B i no_batch)
 set_keeps f B b x l e i = elim (cases_eq i b) [
   | inl q ↦ rw q (ap f (get_or-set_same B b x no_batch l) ∙ e)
@@ -51,7 +51,7 @@ module _ (B : List Batch) (s : ℕ) where
     | inr t ↦ rw t (unfound_admitted R (rw t at h))
   ]
 
-  -- where the first on the side is, its batch tells whether it is full
+  -- if the side has a running member, the batch of the first one says whether the side is full
   pub found_full : (R : List Member) (first : Member) (size : ℕ) → find on_side R ≡ Some first → full_on size s (map (running_shown B) R) ≡ cond (leb size (batch_at B first).admitted)
       (Some first.txn.0) None
   found_full [] first size h = absurd (cc)
@@ -68,7 +68,7 @@ module _ (B : List Batch) (s : ℕ) where
   ]
 
   module _ (R : List Member) (w : All (λ m. m.batch < length B) R) where
-    -- the side has an open batch
+    -- the side has an open batch: the member joins it
     pub entered_first : (first : Member) (at : ℕ) (y : Batch) → find on_side R ≡ Some first → y ≡ get_or B first.batch y → ((m : Member) → Has m R → (batch_at B m).close ≡ None) →
         ((m o : Member) → Has m R → Has o R → (batch_at B m).side ≡ (batch_at B o).side → m.batch ≡ o.batch) →
         Entered R B (set B first.batch (record { side = y.side; start = y.start; close = y.close; admitted = y.admitted + 1; settled = y.settled })) s at first.batch
@@ -98,7 +98,7 @@ module _ (B : List Batch) (s : ℕ) where
           own_admitted = ap (λ (z : Batch). z.admitted) here ∙ add-one y.admitted ∙ ap (λ (z : Batch). suc z.admitted) q ∙ ap (λ (k : ℕ). suc k) (sym (found_admitted R first h));
         }
 
-    -- it has none
+    -- the side has no open batch: a new one is appended
     pub entered_none : (at k : ℕ) → find on_side R ≡ None → Entered R B (B ++ record { side = s; start = at; close = None; admitted = 1; settled = k } ∷ []) s at (length B)
     entered_none at k h =
         let x : Batch = record { side = s; start = at; close = None; admitted = 1; settled = k } in
@@ -122,7 +122,7 @@ module _ (B : List Batch) (s : ℕ) where
         last_one [] x = refl
         last_one (y ∷ B) x = last_one B x
 
--- a book with one more member
+-- the book after one more member has joined
 module _ (J R : List Member) (B C : List Batch) (s at b : ℕ) (h : IsHeld J R B) (e : Entered R B C s at b) where
   in_joined : (m : Member) → Has m J → m.batch < length B
   in_joined m k = All-Has (λ (o : Member). o.batch < length B) m J h.joined_within k

@@ -1,4 +1,4 @@
--- What a Done or a Gone makes of the batches of a node on the transaction's path, and that other events leave them.
+-- The effect of a Done or a Gone on the batches of a node on the transaction's path; other events leave the batches unchanged.
 use Rattle.std.proofs.Common.{◌≡◌, ℕ, Bool, true, false, cond, not, ◌&&◌, ◌||◌, eqb, List, [], ◌∷◌, ◌++◌, length, filter, map, count_by, Option, Some, None, refl, sym, ◌∙◌, ap, subst, eqb-true}
 use Rattle.std.proofs.lemmas.Bool.{both_ways, false_from_ne_true}
 use Rattle.std.proofs.lemmas.List.Elements.{filter-append, filter_agree}
@@ -21,12 +21,12 @@ use Rattle.batch_book.proofs.Intervals.{start_kept, closing_step, closing_busy}
 use Rattle.batch_book.proofs.Lists.{filter_in, map_in, count_in, map-map, filter-map, filter-filter}
 use Rattle.batch_book.proofs.Idle.{row_path, running_path, idle_running}
 
--- the members stay, and nobody of them begins: start, side and the number admitted stay
+-- if the members stay and none of them begins, then start, side and the number admitted stay
 module _ (S : Setup) (P : List Event) (n : ℕ) (e : Event) (l : IsNumbered P) (m : MayCome P e) where
   old : (u : ℕ) → In u (txns P) → is_began u e ≡ false
   old u i = begins_once e P u l m (In-txns_begun P u l i)
 
-  -- those who pass a test that asks for the node
+  -- a test that includes being on the node selects the same transactions before and after e
   abbrev Steady : Type 0
   Steady = (q : ℕ → Bool) → filter (λ u. on S (e ∷ P) n u && q u) (txns (e ∷ P)) ≡ filter (λ u. on S P n u && q u) (txns P)
 
@@ -37,7 +37,7 @@ module _ (S : Setup) (P : List Event) (n : ℕ) (e : Event) (l : IsNumbered P) (
   members_kept h = filter_agree (on S (e ∷ P) n) (λ u. on S (e ∷ P) n u && true) (λ u. sym (and_true (on S (e ∷ P) n u))) (txns (e ∷ P)) ∙ h (λ u. true)
       ∙ filter_agree (λ u. on S P n u && true) (on S P n) (λ u. and_true (on S P n u)) (txns P)
 
-  -- the same for those who are on side y
+  -- the transactions on side y are the same before and after e
   filter_sides : Steady → (y : ℕ) → filter (λ v. on S (e ∷ P) n v && eqb (side S (e ∷ P) n v) y) (txns (e ∷ P)) ≡ filter (λ v. on S P n v && eqb (side S P n v) y) (txns P)
   filter_sides h y =
       sym (filter-filter (on S (e ∷ P) n) (λ v. eqb (side S (e ∷ P) n v) y) (txns (e ∷ P)))
@@ -69,7 +69,7 @@ module _ (S : Setup) (P : List Event) (n : ℕ) (e : Event) (l : IsNumbered P) (
       ∙ (λ k. closed_at ((idle_running S (e ∷ P) n (side S P n u) ∙ ap (λ (rs : List Running). not (is_busy rs (side S P n u))) q) k) (length P) (closing S P n u))))
       ∙ sym (map-map (row_of S P n) (row_finished left (length P)) (members S P n))
 
-  -- a finish of t
+  -- t finishes
   pub running_done : (t : ℕ) → is_began_event e ≡ false → ((u : ℕ) → unfinished (e ∷ P) u ≡ (unfinished P u && not (eqb u t))) → running_in S (e ∷ P) n ≡ running_finished (running_in S P n) t
   running_done t h f =
       let g = steady_kept h in
@@ -80,7 +80,7 @@ module _ (S : Setup) (P : List Event) (n : ℕ) (e : Event) (l : IsNumbered P) (
       (λ u i. (filter-In (on S P n) u (txns P) (filter-In (unfinished P) u (members S P n) (filter-In (λ w. not (eqb w t)) u (filter (unfinished P) (members S P n)) i).0).0).0)
       ∙ sym (filter-map (running_of S P n) (λ r. not (eqb r.txn t)) (filter (unfinished P) (members S P n)))
 
-  -- an event that passes the node by
+  -- an event that does not concern the node
   pub running_passed : Steady → ((u : ℕ) → In u (members S P n) → unfinished (e ∷ P) u ≡ unfinished P u) → running_in S (e ∷ P) n ≡ running_in S P n
   running_passed g f =
       ap (λ (us : List ℕ). map (running_of S (e ∷ P) n) (filter (unfinished (e ∷ P)) us)) (members_kept g)
@@ -95,7 +95,7 @@ module _ (S : Setup) (P : List Event) (n : ℕ) (e : Event) (l : IsNumbered P) (
       still u i (Some c) p = refl
       still u i None p = ap (λ (b : Bool). cond b (Some (length P)) None) (sym (idle_running S P n (side S P n u)) ∙ closing_busy S P n u (In-txns_begun P u l i) p)
 
--- whoever finishes is finished, and nobody else
+-- only the transaction that finishes becomes finished
 or_not : (b c d g : Bool) → (b && not (d || c) && not g) ≡ (b && not c && not g && not d)
 or_not true true true true = refl
 or_not true true true false = refl
@@ -131,7 +131,7 @@ pub finish_no_begin : (t : ℕ) (e : Event) → Finishes t e → is_began_event 
 finish_no_begin t (Began u s k i) f = absurd f
 finish_no_begin t _ f = refl
 
--- where the transaction is another
+-- a transaction that is not on the node differs from each that is
 other_unfinished : (S : Setup) (P : List Event) (n t u : ℕ) → on S P n t ≡ false → on S P n u ≡ true → eqb u t ≡ false
 other_unfinished S P n t u f o = false_from_ne_true _ (λ q. both_ways _ f (subst (λ (w : ℕ). on S P n w ≡ true) (eqb-true u t q) o))
 

@@ -1,4 +1,4 @@
--- Where a batch is full, by its running rows.
+-- Whether a batch is full, by its running rows.
 use Rattle.std.proofs.Common.{◌≡◌, ℕ, Bool, true, false, cond, ◌&&◌, eqb, leb, List, [], ◌∷◌, filter, map, find, count_by, None, refl, sym, ◌∙◌, ap, inl, inr, eqb-true}
 use Rattle.std.proofs.lemmas.Bool.{cases_Bool}
 use Rattle.teb_history.specs.declared.Event.{Event}
@@ -14,7 +14,7 @@ use Rattle.batch_book.specs.Histories.{IsNumbered, admitted, members, running_of
 use Rattle.batch_book.proofs.Intervals.{start_last}
 use Rattle.batch_book.proofs.Lists.{filter-filter}
 
--- where all of a side have admitted as many, the first of them tells
+-- if all transactions of a side are in a batch with the same number admitted, the first of them decides whether it is full
 full_is : (f : ℕ → Running) (g a : ℕ → ℕ) (s c size : ℕ) (us : List ℕ) → ((u : ℕ) → In u us → ((f u).txn ≡ u) × ((f u).side ≡ g u)) → ((u : ℕ) → In u us → g u ≡ s → ((f u).admitted ≡ c) × (a u ≡ c)) →
     full_on size s (map f us) ≡ find (λ u. leb size (a u)) (filter (λ u. eqb (g u) s) us)
 full_is f g a s c size [] h k = refl
@@ -47,7 +47,7 @@ filter-swap p q us = filter-filter q p us ∙ swap us ∙ sym (filter-filter p q
     swap [] = refl
     swap (v ∷ vs) = λ i. cond (and_comm (q v) (p v) i) (v ∷ swap vs i) (swap vs i)
 
--- how many of side s start where its last batch does
+-- the number of transactions of side s that start where its last batch does
 abbrev batch_count : Setup → List Event → ℕ → ℕ → ℕ
 batch_count S H n s = count_by (λ u. eqb (start S H n u) (last (opens S n s) H)) (filter (λ u. on S H n u && eqb (side S H n u) s) (txns H))
 

@@ -1,4 +1,4 @@
--- Whoever is numbered below the horizon of a transaction was of a batch that closed before that of the transaction started.
+-- A transaction numbered below the horizon of another was in a batch that closed before the other's batch started.
 use Rattle.std.proofs.Common.{◌≡◌, ℕ, zero, suc, ◌<◌, ◌≤◌, Bool, true, false, cond, eqb, List, [], ◌∷◌, length, get_or, map, Option, Some, None, ◌∙◌, ap, subst₂, inl, inr, arith, refl, eq-eqb}
 use Rattle.std.specs.List.{list_any}
 use Rattle.std.proofs.lemmas.Bool.{cases_lt, or_left, or_right}
@@ -24,7 +24,7 @@ above_at n [] i h l = absurd (omega arith)
 above_at n (m ∷ J) zero h l = h.0
 above_at n (m ∷ J) (suc i) h l = above_at n J i h.1 (omega arith)
 
--- in a list that ascends, who comes later has no smaller number
+-- in an ascending list, a later member has no smaller number
 ascends : (J : List Member) (i j : ℕ) → IsAscendingBy member_number J → i ≤ j → j < length J → member_number (get_or J i no_member) ≤ member_number (get_or J j no_member)
 ascends [] i j h k l = absurd (omega arith)
 ascends (m ∷ J) zero zero h k l = omega arith
@@ -32,7 +32,7 @@ ascends (m ∷ J) zero (suc j) h k l = let a = above_at m.txn.0 J j h.0 (omega a
 ascends (m ∷ J) (suc i) zero h k l = absurd (omega arith)
 ascends (m ∷ J) (suc i) (suc j) h k l = ascends J i j h.1 (omega arith) (omega arith)
 
--- the place of a member's row
+-- the index of a member's row
 listed : (B : List Batch) (f : ℕ → Row) (J : List Member) (us : List ℕ) (u : ℕ) → map (row_shown B) J ≡ map f us → In u us → (j : ℕ) × (j < length J) × (row_shown B (get_or J j no_member) ≡ f u)
 listed B f J [] u e i = absurd i
 listed B f [] (v ∷ us) u e i = absurd (cc)
@@ -44,7 +44,7 @@ listed B f (m ∷ J) (v ∷ us) u e i =
       | inr k ↦ (let r = listed B f J us u b k in (suc r.0, (let z = r.1 in omega arith), r.2))
     ]
 
--- whoever stands in the list has joined
+-- a member of the list has joined
 pub joined_at : (B : List Batch) (J : List Member) (i : ℕ) → i < length J → list_any (λ (r : Row). eqb r.txn (get_or J i no_member).txn.0) (map (row_shown B) J) ≡ true
 joined_at B [] i l = absurd (omega arith)
 joined_at B (m ∷ J) zero l = or_left (eqb m.txn.0 m.txn.0) _ (eq-eqb m.txn.0 m.txn.0 refl)

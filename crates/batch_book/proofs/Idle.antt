@@ -1,4 +1,4 @@
--- A side is idle where no running row has it; what the running rows of a side share.
+-- A side is idle if no running row has it; the running rows of a side share their start and the number admitted.
 use Rattle.std.proofs.Common.{◌≡◌, ℕ, Bool, true, false, cond, not, ◌&&◌, ◌||◌, eqb, List, [], ◌∷◌, ◌++◌, filter, map, Option, refl, inl, inr, eqb-true}
 use Rattle.std.specs.List.{list_all}
 use Rattle.std.proofs.lemmas.Bool.{cases_Bool}
@@ -39,7 +39,7 @@ pub idle_running : (S : Setup) (H : List Event) (n s : ℕ) → idle S H n s ≡
 unfolding idle
 idle_running S H n s = idle_any (unfinished H) (on S H n) (side S H n) (running_of S H n) s (λ u. refl) (txns H)
 
--- where all running rows of a side have one start, and one number admitted
+-- if all running rows of a side share a start, that is the start of the side; likewise for the number admitted
 pub start_on_is : (f : ℕ → Running) (s at l : ℕ) (us : List ℕ) → ((u : ℕ) → In u us → (f u).side ≡ s → (f u).start ≡ l) → start_on (map f us) s at ≡ cond (is_busy (map f us) s) l at
 start_on_is f s at l [] h = refl
 start_on_is f s at l (v ∷ vs) h = elim (cases_Bool (eqb (f v).side s)) [
@@ -54,7 +54,7 @@ admitted_on_is f s c (v ∷ vs) h = elim (cases_Bool (eqb (f v).side s)) [
   | inr t ↦ rw t (admitted_on_is f s c vs (λ u i. h u (inr i)))
 ]
 
--- a join leaves a busy side busy
+-- after a join, a busy side is still busy
 pub busy_joined : (rs : List Running) (x : Running) (s a : ℕ) → is_busy rs a ≡ true → is_busy (map (admit s) rs ++ x ∷ []) a ≡ true
 busy_joined [] x s a h = absurd (cc)
 busy_joined (r ∷ rs) x s a h = go (eqb r.side a) h (busy_joined rs x s a)

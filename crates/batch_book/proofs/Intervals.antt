@@ -37,14 +37,14 @@ began_now e P u h b = elim (first_cases (newest (is_began u)) e P) [
   | later a c d ↦ absurd (both_ways _ c b)
 ]
 
--- the start of one that has begun stays
+-- the start of a transaction that has begun does not change
 pub start_kept : (S : Setup) (e : Event) (P : List Event) (n u : ℕ) → begun P u ≡ true → is_began u e ≡ false → start S (e ∷ P) n u ≡ start S P n u
 unfolding start
 start_kept S e P n u h b =
     (λ i. last (opens S n (side_kept S e P n u b i)) (upto (suc (began_kept e P u h i)) (e ∷ P)))
     ∙ ap (last (opens S n (side S P n u))) (upto_cons (suc (began_at P u)) e P (began_lt P u h))
 
--- the newest's is the last opening of its side
+-- the start of the newest transaction is the last opening of its side
 pub start_here : (S : Setup) (e : Event) (P : List Event) (n u : ℕ) → begun P u ≡ false → is_began u e ≡ true → start S (e ∷ P) n u ≡ last (opens S n (side S (e ∷ P) n u)) (e ∷ P)
 unfolding start
 start_here S e P n u h b =
@@ -104,7 +104,7 @@ start_last S (e ∷ P) n u l h o = elim (cases_Bool (is_began u e)) [
       ∙ (λ j. last (opens S n (sym (side_kept S e P n u b) j)) (e ∷ P)))
 ]
 
--- the first event after which p holds, if it has come
+-- the position of the first event after which p holds, if there is one
 abbrev found : (List Event → Bool) → List Event → Option ℕ
 found p H = cond (came H (first p H)) (Some (first p H)) None
 
@@ -119,7 +119,7 @@ closing_found : (S : Setup) (H : List Event) (n u s : ℕ) → side S H n u ≡ 
 unfolding closing close
 closing_found S H n u s e = ap (λ (z : ℕ). found (λ Q. begun Q u && idle S Q n z) H) e
 
--- the close of one that has begun: it stays, or comes now
+-- the close of a transaction that has begun stays, or is the newest event
 pub closing_step : (S : Setup) (e : Event) (P : List Event) (n u : ℕ) → begun P u ≡ true → is_began u e ≡ false → closing S (e ∷ P) n u ≡ closed_at (idle S (e ∷ P) n (side S P n u)) (length P)
     (closing S P n u)
 closing_step S e P n u h b =
@@ -140,7 +140,7 @@ found_none S P n u s h =
       | inr l ↦ ap (λ (b : Bool). cond b (Some (first p P)) None) (le-ltb _ _ l)
     ]
 
--- and of one that begins now: its side is not idle, so it is open
+-- the batch of a transaction that begins now is open, since its side is not idle
 pub closing_here : (S : Setup) (e : Event) (P : List Event) (n u : ℕ) → begun P u ≡ false → idle S (e ∷ P) n (side S (e ∷ P) n u) ≡ false → closing S (e ∷ P) n u ≡ None
 closing_here S e P n u h i =
     let s = side S (e ∷ P) n u in
@@ -152,7 +152,7 @@ closed_none true at None h = absurd (cc)
 closed_none false at None h = refl
 closed_none b at (Some c) h = absurd (cc)
 
--- while a batch is open its side is not idle
+-- while a batch is open, its side is not idle
 pub closing_busy : (S : Setup) (H : List Event) (n u : ℕ) → begun H u ≡ true → closing S H n u ≡ None → idle S H n (side S H n u) ≡ false
 closing_busy S [] n u h c = absurd (both_ways _ (begun_none u) h)
 closing_busy S (e ∷ P) n u h c =

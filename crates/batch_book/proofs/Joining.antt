@@ -1,4 +1,4 @@
--- What a Began makes of the batches of a node on its path.
+-- The effect of a Began on the batches of a node on its path.
 use Rattle.std.proofs.Common.{◌≡◌, ◌⊎◌, ℕ, suc, ◌+◌, Bool, true, false, cond, not, ◌&&◌, ◌||◌, eqb, List, [], ◌∷◌, ◌++◌, length, filter, map, count_by, Option, Some, None, refl, sym, ◌∙◌, ap, inl, inr, arith, eqb-true, eq-eqb}
 use Rattle.std.proofs.lemmas.Bool.{cases_Bool, not-false, not_from_true, ne_eqb, eqb-false}
 use Rattle.std.proofs.lemmas.List.{map-append}
@@ -72,7 +72,7 @@ module _ (S : Setup) (P : List Event) (n : ℕ) (t : Txn) (z : Session) (k : Kin
       ∙ filter-append (unfinished (e ∷ P)) (members S P n) (t.0 ∷ [])
       ∙ (λ i. filter_in (unfinished (e ∷ P)) (unfinished P) (members S P n) (λ u j. old_unfinished u (filter-In (on S P n) u (txns P) j).0) i ++ cond (new_unfinished i) (t.0 ∷ []) [])
 
-  -- one who is on the node and unfinished before
+  -- u is on the node and was unfinished before the event
   record Live (u : ℕ) : Type 0 where
     there : In u (txns P)
     is_on : on S P n u ≡ true
@@ -81,7 +81,7 @@ module _ (S : Setup) (P : List Event) (n : ℕ) (t : Txn) (z : Session) (k : Kin
   live : (u : ℕ) → In u (filter (unfinished P) (members S P n)) → Live u
   live u i = let a = filter-In (unfinished P) u (members S P n) i in let b = filter-In (on S P n) u (txns P) a.0 in record { there = b.0; is_on = b.1; runs = a.1 }
 
-  -- where the new one's batch starts
+  -- the start of the new transaction's batch
   opens_is : opens S n s (e ∷ P) ≡ idle S P n s
   unfolding opens
   opens_is = rw (o, eq-eqb s s refl) refl
@@ -104,7 +104,7 @@ module _ (S : Setup) (P : List Event) (n : ℕ) (t : Txn) (z : Session) (k : Kin
   start_found : start_on (running_in S P n) s (length P) ≡ cond (is_busy (running_in S P n) s) (last (opens S n s) P) (length P)
   start_found = start_on_is (running_of S P n) s (length P) (last (opens S n s) P) (filter (unfinished P) (members S P n)) (λ u i q. live_start u (live u i) q)
 
-  -- how many are admitted, with the new one
+  -- the number admitted, with the new transaction
   abbrev counted : ℕ → ℕ → ℕ
   counted y a = count_by (λ v. eqb (start S P n v) a) (filter (λ v. on S P n v && eqb (side S P n v) y) (txns P))
 

@@ -31,7 +31,7 @@ unfolding Has
 filter_all p [] f = refl
 filter_all p (x ∷ xs) f = ap (λ (b : Bool). cond b (x ∷ filter p xs) (filter p xs)) (f x (inl refl)) ∙ ap (λ (ys : List _). x ∷ ys) (filter_all p xs (λ y h. f y (inr h)))
 
--- those that are left without t
+-- the members without t
 abbrev pub without : ℕ → List Member → List Member
 without t ms = filter (λ m. not (eqb m.txn.0 t)) ms
 
@@ -54,11 +54,11 @@ module _ (J R : List Member) (B : List Batch) (t : ℕ) (h : IsHeld J R B) where
   same_side : (m o : Member) → m.batch ≡ o.batch → (batch_at B m).side ≡ (batch_at B o).side
   same_side m o e = ap (λ (i : ℕ). (get_or B i no_batch).side) e
 
-  -- a side with somebody left is busy
+  -- a side with a remaining member is busy
   left_busy : (m o : Member) → Has o (without t R) → o.batch ≡ m.batch → is_busy (map (running_shown B) (without t R)) (batch_at B m).side ≡ true
   left_busy m o k e = busy_any B (batch_at B m).side (without t R) ∙ Has-any (λ z. eqb (batch_at B z).side (batch_at B m).side) o (without t R) k (eq-eqb _ _ (same_side o m e))
 
-  -- a row stays, if somebody of its batch is left where that is open
+  -- the row of an open batch does not change if some member of the batch remains
   row_same : (at : ℕ) (m : Member) → ((batch_at B m).close ≡ None → (o : Member) × Has o (without t R) × (o.batch ≡ m.batch)) → row_shown B m ≡ row_finished (map (running_shown B) (without t R)) at
       (row_shown B m)
   row_same at m f = row_path m.txn.0 _ _ _ _ _ _ refl refl (sym (go (batch_at B m).close refl))
@@ -74,7 +74,7 @@ module _ (J R : List Member) (B : List Batch) (t : ℕ) (h : IsHeld J R B) where
       ∙ sym (map-map (row_shown B) (row_finished (map (running_shown B) (without t R)) at) J)
       ∙ ap (λ (rs : List Running). map (row_finished rs at) (map (row_shown B) J)) (sym (shown_without B t R))
 
-  -- t is not among them: nothing changes
+  -- t is not among the running members: nothing changes
   pub absent_rows : (at : ℕ) → find (λ m. eqb m.txn.0 t) R ≡ None → map (row_shown B) J ≡ rows_finished (map (running_shown B) R) (map (row_shown B) J) t at
   absent_rows at e = rows_of B at (λ m k. row_same at m (λ c. let r = h.busy m k c in (r.0, stays r.0 r.1 (eqb-false _ _ (unfound_Has (λ m. eqb m.txn.0 t) r.0 R e r.1)), r.2)))
 
@@ -82,11 +82,11 @@ module _ (J R : List Member) (B : List Batch) (t : ℕ) (h : IsHeld J R B) where
     its : Has member R × (member.txn.0 ≡ t)
     its = let f = found_Has (λ m. eqb m.txn.0 t) member R e in (f.0, eqb-true _ _ f.1)
 
-    -- one of t's number has its batch
+    -- a running member with t's number is in t's batch
     its_batch : (o : Member) → Has o R → o.txn.0 ≡ t → o.batch ≡ member.batch
     its_batch o k q = ap (λ (m : Member). m.batch) (one_Has member_number o member R h.running_ascending k its.0 (q ∙ sym its.1))
 
-    -- others of its batch are left
+    -- other members of t's batch remain
     others : list_any (λ o. eqb o.batch member.batch) (without t R) ≡ true → (m : Member) → Has m J → (batch_at B m).close ≡ None → (o : Member) × Has o (without t R) × (o.batch ≡ m.batch)
     others a m k c =
         let r = h.busy m k c in
@@ -111,7 +111,7 @@ module _ (J R : List Member) (B : List Batch) (t : ℕ) (h : IsHeld J R B) where
       few = λ m k. h.few m (left_Has m k);
     }
 
-    -- it was the last of its batch
+    -- t was the last member of its batch
     module _ (a : list_any (λ o. eqb o.batch member.batch) (without t R) ≡ false) (at : ℕ) (y : Batch) (is : y ≡ get_or B member.batch y) where
       abbrev x : Batch
       x = record { side = y.side; start = y.start; close = Some at; admitted = y.admitted; settled = y.settled }
@@ -134,7 +134,7 @@ module _ (J R : List Member) (B : List Batch) (t : ℕ) (h : IsHeld J R B) where
       left_apart : (m : Member) → Has m (without t R) → m.batch ≢ member.batch
       left_apart m k = eqb-false _ _ (none_Has (λ o. eqb o.batch member.batch) m (without t R) a k)
 
-      -- those of other batches are left
+      -- the members of other batches remain
       others_apart : (m : Member) → Has m J → m.batch ≢ member.batch → (batch_at B m).close ≡ None → (o : Member) × Has o (without t R) × (o.batch ≡ m.batch)
       others_apart m k ne c = let r = h.busy m k c in (r.0, stays r.0 r.1 (λ q. ne (sym r.2 ∙ its_batch r.0 r.1 q)), r.2)
 
@@ -173,7 +173,7 @@ module _ (J R : List Member) (B : List Batch) (t : ℕ) (h : IsHeld J R B) where
         few = λ m k. rw (apart m (left_apart m k)) (h.few m (left_Has m k));
       }
 
--- the fields of an empty book
+-- an empty book is sound
 pub held_none : (J R : List Member) (B : List Batch) → J ≡ [] → R ≡ [] → IsHeld J R B
 unfolding Has
 held_none J R B j r = subst (λ (z : List Member). IsHeld z R B) (sym j) (subst (λ (z : List Member). IsHeld [] z B) (sym r) (record {

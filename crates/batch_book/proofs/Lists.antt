@@ -4,7 +4,7 @@ use Rattle.std.proofs.lemmas.List.Elements.{filter-append}
 use Rattle.std.proofs.lemmas.List.Sums.{length-filter}
 use Rattle.teb_rules.specs.Serializes.{In}
 
--- functions that agree on the elements
+-- two tests that agree on the elements of a list filter it alike
 pub filter_in : (p q : ℕ → Bool) (us : List ℕ) → ((u : ℕ) → In u us → p u ≡ q u) → filter p us ≡ filter q us
 filter_in p q [] f = refl
 filter_in p q (v ∷ vs) f = λ i. cond (f v (inl refl) i) (v ∷ filter_in p q vs (λ u j. f u (inr j)) i) (filter_in p q vs (λ u j. f u (inr j)) i)

@@ -36,7 +36,7 @@ or_none : (b c : Bool) → (b || c) ≡ false → c ≡ false
 or_none true c h = absurd (cc)
 or_none false c h = h
 
--- who is unfinished after an event that does not begin him was so before
+-- a transaction that is unfinished after an event that does not begin it was unfinished before
 pub unfinished_before : (e : Event) (P : List Event) (u : ℕ) → is_began u e ≡ false → unfinished (e ∷ P) u ≡ true → unfinished P u ≡ true
 unfinished_before e P u b h =
     let p = unfinished_parts (e ∷ P) u h in
@@ -45,7 +45,7 @@ unfinished_before e P u b h =
     (or_none _ _ (sym (committed_step e P u) ∙ p.1))
     (or_none _ _ (sym (aborted_step e P u) ∙ p.2))
 
--- the numbers of those that have begun
+-- the numbers of the transactions that have begun
 count_grows : (e : Event) (P : List Event) → begun_count P ≤ begun_count (e ∷ P)
 unfolding begun_count
 count_grows (Began t s k inst) P = omega arith
@@ -68,7 +68,7 @@ begun_bounds (e ∷ P) u l h = elim (or_cases (is_began u e) (begun P u) (sym (b
   | inr b ↦ (let r = begun_bounds P u l.1 b in let a = r.0 in let d = r.1 in let c = count_grows e P in (a, omega arith))
 ]
 
--- nobody has the number of the next
+-- no transaction begins twice
 pub begins_new : (e : Event) (P : List Event) (u : ℕ) → IsNumbered P → MayCome P e → is_began u e ≡ true → begun P u ≡ false
 begins_new e P u l m b = false_from_ne_true _ (λ h. let r = begun_bounds P u l h in let a = r.1 in let c = (counted e P u m b).0 in absurd (omega arith))
 
@@ -90,7 +90,7 @@ begun_all (Began t s k inst ∷ P) u l a h = elim (cases_order u (suc (begun_cou
 ]
 begun_all (e ∷ P) u l a h = begun_step e P u ∙ or_right (is_began u e) _ (begun_all P u l.1 a h)
 
--- who is finished has begun
+-- a transaction that has not begun is not finished
 pub finish_begun : (H : List Event) (u : ℕ) → IsNumbered H → begun H u ≡ false → (committed H u ≡ false) × (aborted H u ≡ false)
 unfolding IsNumbered
 finish_begun [] u l h = unfold committed aborted done_at gone_at first_event first in (refl, refl)
@@ -108,7 +108,7 @@ finish_begun (e ∷ P) u l h =
     no_finish (Gone t c) P u m b = (refl, other P t.0 u m b)
     no_finish _ P u m b = (refl, refl)
 
--- whoever has begun is looked at, and whoever is looked at has begun
+-- a transaction is in `txns` if and only if it has begun
 pub txns-In : (H : List Event) (u : ℕ) → IsNumbered H → begun H u ≡ true → In u (txns H)
 unfolding txns
 txns-In H u l h = let r = begun_bounds H u l h in In-numbers (begun_count H) u r.0 r.1

@@ -1,4 +1,4 @@
--- What each batch knows of those that were closed before it started, when a member joins and when one finishes.
+-- What each batch records about the batches that closed before it started, when a member joins and when one finishes.
 use Rattle.std.proofs.Common.{◌≡◌, ℕ, ◌+◌, ◌<◌, ◌≤◌, List, [], ◌∷◌, ◌++◌, length, get_or, set, Some, None, refl, sym, ◌∙◌, ap, subst, inl, inr, arith, length-append}
 use Rattle.std.proofs.Math.ListN.{length-set}
 use Rattle.std.specs.List.{All}
@@ -12,7 +12,7 @@ use Rattle.batch_book.specs.Settled.{no_member, IsClosedBefore, AreClosed, IsSet
 use Rattle.batch_book.proofs.Entering.{set_keeps}
 
 module _ (J : List Member) (B : List Batch) where
-  -- other batches that know as much, and of which as many are closed
+  -- a change that keeps each `settled` and `start`, and keeps closed batches closed, preserves the invariant
   carried : (C : List Batch) (n m : ℕ) → n ≤ m → length C ≡ length B → ((i : ℕ) → (get_or C i no_batch).settled ≡ (get_or B i no_batch).settled)
       → ((i : ℕ) → (get_or C i no_batch).start ≡ (get_or B i no_batch).start) →
       ((i p : ℕ) → IsClosedBefore p (get_or B i no_batch).close → IsClosedBefore p (get_or C i no_batch).close) → IsSettled J B n → IsSettled J C m
@@ -22,7 +22,7 @@ module _ (J : List Member) (B : List Batch) where
         (k (get_or J j no_member).batch (get_or B i no_batch).start (h.closed i (omega arith) j (let y = f i in omega arith)));
   }
 
-  -- one more is admitted to a batch
+  -- a batch admits one more member
   pub settled_more : (b : ℕ) (y : Batch) → b < length B → y ≡ get_or B b no_batch → IsSettled J B (length J) →
       IsSettled J (set B b (record { side = y.side; start = y.start; close = y.close; admitted = y.admitted + 1; settled = y.settled })) (length J + 1)
   settled_more b y l q h =
@@ -76,7 +76,7 @@ module _ (J : List Member) (B : List Batch) where
       there : (s j : ℕ) → j < length J → IsClosedBefore s (batch_at B (get_or J j no_member)).close → IsClosedBefore s (batch_at (B ++ x ∷ []) (get_or J j no_member)).close
       there s j r c = subst (λ (z : Batch). IsClosedBefore s z.close) (sym (left (get_or J j no_member).batch (All-get_or (λ (m : Member). m.batch < length B) J j no_member r w))) c
 
-  -- and its member has joined
+  -- the member of the new batch has joined
   pub settled_joined : (t : Member) → IsSettled J B (length J + 1) → IsSettled (J ++ t ∷ []) B (length (J ++ t ∷ []))
   settled_joined t h = record {
     fewer = λ k p. (let z = h.fewer k p in omega (arith, length-append J (t ∷ [])));
@@ -84,6 +84,6 @@ module _ (J : List Member) (B : List Batch) where
         subst (λ (m : Member). IsClosedBefore (get_or B k no_batch).start (batch_at B m).close) (sym (get_or_append_left J (t ∷ []) no_member j l)) (h.closed k p j q));
   }
 
--- where no batch has opened
+-- no batch has opened
 pub settled_none : (J : List Member) (B : List Batch) → B ≡ [] → IsSettled J B (length J)
 settled_none J B e = subst (λ (C : List Batch). IsSettled J C (length J)) (sym e) (record { fewer = λ k p. absurd (omega arith); closed = λ k p. absurd (omega arith) })

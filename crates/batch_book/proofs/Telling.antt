@@ -1,4 +1,4 @@
--- What a book that holds the batches of a history tells of it, and what the next event makes of it.
+-- What a book that holds the batches of a history says about it, and the effect of the next event on the book.
 use Rattle.std.proofs.Common.{◌≡◌, ℕ, suc, ◌<◌, Bool, true, false, cond, not, ◌&&◌, eqb, List, [], ◌∷◌, length, map, find, filter, Some, refl, sym, ◌∙◌, ap, subst, inl, inr, arith, eq-eqb}
 use Rattle.std.specs.List.{list_any}
 use Rattle.std.proofs.lemmas.Bool.{cases_Bool, both_ways, and_from, false_from_ne_true, eqb-true, or_cases, or_left, or_right}
@@ -35,7 +35,7 @@ number_it : (P : List Event) (e : Event) → MayCome P e → IsNumbered P → Is
 unfolding IsNumbered
 number_it P e m l = (m, l)
 
--- a book that shows what the joined one does stands for the history with the Began
+-- a book with the rows of the joined one represents the history with the Began
 pub batches_joined : (b c : Book) (S : Setup) (P : List Event) (n : ℕ) (e : Event) (s t at : ℕ) → BatchesOf b S P n → MayCome P e → Joins S n s t e → at ≡ length P →
     c.rows ≡ rows_joined b.running b.rows s t at → c.running ≡ running_joined b.running s t at → BatchesOf c S (e ∷ P) n
 batches_joined b c S P n (Began u z k i) s t at h m j q r w =
@@ -60,7 +60,7 @@ batches_finished b c S P n e t at h m f q r w =
       running = w ∙ ap (λ (rs : List Running). running_finished rs t) h.running ∙ sym d;
     }
 
--- an event that does not concern the node leaves the book standing
+-- an event that does not concern the node leaves the book valid
 pub batches_passed : (b : Book) (S : Setup) (P : List Event) (n : ℕ) (e : Event) → BatchesOf b S P n → MayCome P e → Passes S P n e → BatchesOf b S (e ∷ P) n
 batches_passed b S P n e h m p =
     let r = passed S P n e h.numbered m p in
@@ -81,7 +81,7 @@ next_new b S P n t h q = record {
     small : (u : ℕ) → In u (txns P) → u < t
     small u i = let z = (begun_bounds P u h.numbered (In-txns_begun P u h.numbered i)).1 in omega arith
 
--- whoever has begun, with the node on his path, has joined
+-- a transaction that has begun, with the node on its path, has joined
 pub joined_from : (b : Book) (S : Setup) (H : List Event) (n t : ℕ) → BatchesOf b S H n → begun H t ≡ true → on S H n t ≡ true → has_joined b t ≡ true
 joined_from b S H n t h g o = ap (list_any (λ (r : Row). eqb r.txn t)) h.rows ∙ there (members S H n) (In-filter (on S H n) t (txns H) (txns-In H t h.numbered g) o)
   where
@@ -89,7 +89,7 @@ joined_from b S H n t h g o = ap (list_any (λ (r : Row). eqb r.txn t)) h.rows �
     there [] i = absurd i
     there (u ∷ us) i = elim i [ inl q ↦ or_left (eqb u t) _ (eq-eqb u t q) | inr j ↦ or_right (eqb u t) _ (there us j) ]
 
--- and nobody else has
+-- only such a transaction has joined
 pub joined_began : (b : Book) (S : Setup) (H : List Event) (n t : ℕ) → BatchesOf b S H n → has_joined b t ≡ true → (begun H t ≡ true) × (on S H n t ≡ true)
 joined_began b S H n t h j =
     let i = there (members S H n) (sym (ap (list_any (λ (r : Row). eqb r.txn t)) h.rows) ∙ j) in
@@ -100,7 +100,7 @@ joined_began b S H n t h j =
     there [] h = absurd (cc)
     there (u ∷ us) h = elim (or_cases (eqb u t) _ h) [ inl q ↦ inl (eqb-true u t q) | inr q ↦ inr (there us q) ]
 
--- so whether somebody has joined tells of the history
+-- a transaction has joined if and only if it has begun and the node is on its path
 pub joined_tells : (b : Book) (S : Setup) (H : List Event) (n t : ℕ) → BatchesOf b S H n → has_joined b t ≡ (begun H t && on S H n t)
 joined_tells b S H n t h = go (begun H t) (on S H n t) refl refl
   where
@@ -112,11 +112,11 @@ joined_tells b S H n t h = go (begun H t) (on S H n t) refl refl
     go true false p q = nobody ((λ j. p j && q j))
     go false o p q = nobody ((λ j. p j && q j))
 
--- and of whoever has begun it tells whether the node is on his path
+-- for a transaction that has begun, the node is on its path if and only if it has joined
 pub on_joined : (b : Book) (S : Setup) (H : List Event) (n t : ℕ) → BatchesOf b S H n → begun H t ≡ true → on S H n t ≡ has_joined b t
 on_joined b S H n t h g = sym (joined_tells b S H n t h ∙ ap (λ (z : Bool). z && on S H n t) g)
 
--- the row of t tells of its batch
+-- the row of t is that of its batch in the history
 pub row_tells : (b : Book) (S : Setup) (H : List Event) (n t : ℕ) (r : Row) → BatchesOf b S H n → find (λ (r : Row). eqb r.txn t) b.rows ≡ Some r → r ≡ row_of S H n t
 row_tells b S H n t r h f = go (members S H n) (ap (find (λ (r : Row). eqb r.txn t)) (sym h.rows) ∙ f)
   where
@@ -127,7 +127,7 @@ row_tells b S H n t r h f = go (members S H n) (ap (find (λ (r : Row). eqb r.tx
       | inr q ↦ go us (rw q at e)
     ]
 
--- and the running ones tell where the batch of a side is full
+-- the running rows tell whether the batch of a side is full
 pub full_tells : (b : Book) (S : Setup) (H : List Event) (n s : ℕ) → BatchesOf b S H n → full_on b.size s b.running ≡ full_at S H n s b.size
 full_tells b S H n s h = ap (full_on b.size s) h.running ∙ full_running S H n s b.size h.numbered
 
@@ -146,7 +146,7 @@ lawful_numbered S (e ∷ P) l = (may e l.0, lawful_numbered S P l.1)
     may (Gone t c) g = g
     may (Told t) g = tt
 
--- a Begin at an inner node that has batches waits for the one that is found where its batch is full
+-- a Begin at an inner node with batches waits if and only if its side's batch is full
 pub begin_waits : (S : Setup) (H : List Event) (s : Spot) (n : ℕ) → on_begin S H s n ≡ cond (has_batches S.tree n && not (eqb n (leaf S.tree s)))
     (wait_for (full_at S H n (side_at S.tree n s 0) (row S.tree n).batch)) Go
 unfolding on_begin full_at admitted

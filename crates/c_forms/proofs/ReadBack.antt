@@ -1,4 +1,4 @@
--- What the forms of replies and events are read back as.
+-- Forms of replies and events, and what they are read back as.
 use Rattle.std.proofs.Common.{◌≡◌, ◌==◌, ℤ, if◌then◌else◌, Option, Some, None, refl, sym, ap, ◌∙◌}
 use Rattle.teb_names.specs.declared.Cause.{Cause}
 use Rattle.teb_names.specs.declared.Cause.TheVariants as cause

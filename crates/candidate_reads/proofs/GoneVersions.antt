@@ -1,4 +1,4 @@
--- Chains that hold the versions of a history hold those of the history with one more Gone, once the versions of that transaction are taken out.
+-- Chains that hold the versions of a history hold those of the history with one more Gone if the aborted transaction's versions are removed.
 use Rattle.std.proofs.Common.{ℕ, ◌≡◌, ◌⊎◌, Bool, true, false, cond, not, ◌||◌, ◌&&◌, eqb, List, [], ◌∷◌, refl, sym, ap, subst, ◌∙◌, inl, inr, eq-eqb, eqb-true}
 use Rattle.std.proofs.lemmas.Bool.{both_ways, false_from_ne_true}
 use Rattle.teb_names.specs.declared.Cell.{Cell}
@@ -68,7 +68,7 @@ cell_removed S a t c P x vs l h = record {
   order = Pairs-without (Strict S (Gone t c ∷ P) x) t.0 vs (order_stays S a (Gone t c) P x (writers_of vs) l (have S P x vs h) h.order);
 }
 
--- a Gone of t, whose versions are taken out
+-- a Gone of t, after which t's versions are removed
 pub versions_removed : (S : Setup) (a : TreeFacts S) (t : Txn) (c : Cause) (P : List Event) (L M : Cell → List Version) → Lawful S (Gone t c ∷ P) → HoldsVersions S P L
     → ((x : Cell) → M x ≡ without t.0 (L x)) → HoldsVersions S (Gone t c ∷ P) M
 versions_removed S a t c P L M l h f = all_cells S (Gone t c ∷ P) M (λ x.

@@ -1,4 +1,4 @@
--- Lists of numbers, place by place: what stands at a place, and what is last.
+-- Lists of numbers by index: the element at an index, and the first or last element that passes a test.
 use Rattle.std.proofs.Common.{◌≡◌, ℕ, zero, suc, ◌<◌, Bool, true, false, cond, eqb, List, [], ◌∷◌, length, get_or, slice_get, find, Option, Some, None, refl, sym, ap, subst, ◌∙◌, arith, inl, inr, eqb-true, eq-eqb}
 use Rattle.std.proofs.lemmas.Bool.{both_ways, false_from_ne_true, or_cases, or_left, or_right}
 use Rattle.std.proofs.lemmas.Option.{slice_get-get_or}
@@ -20,7 +20,7 @@ at-In [] i h = absurd (omega arith)
 at-In (u ∷ us) zero h = inl refl
 at-In (u ∷ us) (suc i) h = inr (at-In us i (omega arith))
 
--- a place of u
+-- an element of the list has an index
 pub In-at : (u : ℕ) (us : List ℕ) → In u us → (i : ℕ) × (i < length us) × (get_or us i 0 ≡ u)
 In-at u [] i = absurd i
 In-at u (v ∷ vs) i = elim i [ inl e ↦ (zero, omega arith, e) | inr j ↦ (let r = In-at u vs j in (suc r.0, (let z = r.1 in omega arith), r.2)) ]
@@ -31,7 +31,7 @@ Pairs-at R (u ∷ us) i zero p a b = absurd (omega arith)
 Pairs-at R (u ∷ us) zero (suc j) p a b = p.0 (get_or us j 0) (at-In us j (omega arith))
 Pairs-at R (u ∷ us) (suc i) (suc j) p a b = Pairs-at R us i j p.1 (omega arith) (omega arith)
 
--- a test that one element alone passes
+-- a search whose test only one element passes finds that element
 pub find_only : (q : ℕ → Bool) (us : List ℕ) (w : ℕ) → In w us → q w ≡ true → ((u : ℕ) → In u us → q u ≡ true → u ≡ w) → find q us ≡ Some w
 find_only q [] w i h f = absurd i
 find_only q (u ∷ us) w i h f = go (q u) refl (λ j. find_only q us w j h (λ v k. f v (inr k)))
@@ -44,7 +44,7 @@ pub find_nothing : (q : ℕ → Bool) (us : List ℕ) → ((u : ℕ) → In u us
 find_nothing q [] f = refl
 find_nothing q (u ∷ us) f = absurd (f u (inl refl))
 
--- what a place that was found is
+-- the index that a search gave is that of the last, or first, element that passes
 pub is_last : (p : ℕ → Bool) (us : List ℕ) (o : Option ℕ) → o ≡ last_place p us → IsLast p us o
 is_last p us o e = subst (λ (r : Option ℕ). IsLast p us r) (sym e) (last_place-found p us)
 

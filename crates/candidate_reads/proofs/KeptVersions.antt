@@ -1,4 +1,4 @@
--- Chains that hold the versions of a history: none at the start, and the same after one more event that changes no version.
+-- Chains that hold the versions of a history: they are empty at the start, and unchanged after an event that changes no version.
 use Rattle.std.proofs.Common.{ℕ, ◌≡◌, true, false, List, [], ◌∷◌, refl, sym, subst, ◌∙◌}
 use Rattle.teb_names.specs.declared.Cell.{Cell}
 use Rattle.teb_history.specs.declared.Event.{Event}
@@ -17,7 +17,7 @@ use Rattle.candidate_reads.proofs.InOrder.{In_among}
 use Rattle.candidate_reads.proofs.Sources.{Strict}
 use Rattle.candidate_reads.proofs.OneMore.{version_same, values_same, order_stays}
 
--- one cell's list
+-- the list vs holds the versions of cell x
 pub record HoldsCell (S : Setup) (H : List Event) (x : Cell) (vs : List Version) : Type 0 where
   pub writers : (w : ℕ) → is_writer vs w ≡ has_version H x w
   pub values : HaveLastValues H x vs
@@ -29,7 +29,7 @@ cell_of S H L x h = record { writers = h.writers x; values = h.values x; order =
 pub all_cells : (S : Setup) (H : List Event) (L : Cell → List Version) → ((x : Cell) → HoldsCell S H x (L x)) → HoldsVersions S H L
 all_cells S H L f = record { writers = λ x. (f x).writers; values = λ x. (f x).values; order = λ x. (f x).order }
 
--- no versions
+-- the empty history has no versions
 nobody : (x : Cell) (w : ℕ) → wrote [] w x ≡ false
 unfolding wrote put_at first_event first
 nobody x w = refl
@@ -40,7 +40,7 @@ versions_none S L f = all_cells S [] L (λ x. subst (λ (vs : List Version). Hol
 pub have : (S : Setup) (H : List Event) (x : Cell) (vs : List Version) → HoldsCell S H x vs → (w : ℕ) → In w (writers_of vs) → has_version H x w ≡ true
 have S H x vs h w i = sym (h.writers w) ∙ In_among w (writers_of vs) i
 
--- an event that neither puts this cell nor is a Gone
+-- an event that neither puts the cell nor is a Gone keeps the cell's versions
 pub cell_kept : (S : Setup) (a : TreeFacts S) (e : Event) (P : List Event) (x : Cell) (vs : List Version) → Lawful S (e ∷ P) → ((u : ℕ) → is_put u x e ≡ false) → ((u : ℕ) → is_gone u e ≡ false)
     → HoldsCell S P x vs → HoldsCell S (e ∷ P) x vs
 cell_kept S a e P x vs l p g h = record {
@@ -67,6 +67,6 @@ takes_nobody (Ready t) q u = refl
 takes_nobody (Done t) q u = refl
 takes_nobody (Told t) q u = refl
 
--- an event that changes no version
+-- an event that changes no version keeps the versions of every cell
 pub versions_kept : (S : Setup) (a : TreeFacts S) (e : Event) (P : List Event) (L : Cell → List Version) → Lawful S (e ∷ P) → LeavesVersions e → HoldsVersions S P L → HoldsVersions S (e ∷ P) L
 versions_kept S a e P L l q h = all_cells S (e ∷ P) L (λ x. cell_kept S a e P x (L x) l (λ u. puts_nothing e q u x) (takes_nobody e q) (cell_of S P L x h))

@@ -1,4 +1,4 @@
--- Where a writer and another transaction meet, and what that node says of the two.
+-- The node at which a writer and another transaction meet, and what its control says about the two.
 use Rattle.std.proofs.Common.{ℕ, ◌≡◌, ◌≢◌, ◌<◌, Bool, true, false, not, ◌&&◌, ltb, List, sym, subst, ◌∙◌, length, lt-ltb, ltb-true, ne_eqb, refl, inl, inr, arith}
 use Rattle.std.proofs.lemmas.Bool.{both_ways, cases_Bool, ltb-false}
 use Rattle.teb_names.specs.declared.Cell.{Cell}
@@ -26,13 +26,13 @@ use Rattle.candidate_reads.proofs.InOrder.{among_In}
 use Rattle.candidate_reads.proofs.Shows.{version_parts}
 use Rattle.candidate_reads.proofs.Sources.{writer_began, begun_place}
 
--- two that have begun meet at the node that is said to be theirs
+-- two different transactions that have begun meet at the node that `meet` gives
 pub meets_there : (S : Setup) (a : TreeFacts S) (H : List Event) (n t u : ℕ) → Lawful S H → begun H t ≡ true → begun H u ≡ true → t ≢ u → meet S H t u ≡ n → meets S H n t u ≡ true
 meets_there S a H n t u l bt bu ne e =
     let m = meets_exists S a H t u l (begun_place H t bt) (begun_place H u bu) ne in
     subst (λ (k : ℕ). meets S H k t u ≡ true) (sym (meet_is S a H m.node t u l (begun_place H t bt) (begun_place H u bu) m.meet) ∙ e) m.meet
 
--- in a tree of one node all that have begun meet at node 0
+-- in a tree of one node, two different transactions that have begun meet at node 0
 pub meets_alone : (S : Setup) (a : TreeFacts S) (H : List Event) (t u : ℕ) → Lawful S H → length S.tree ≡ 1 → begun H t ≡ true → begun H u ≡ true → t ≢ u → meets S H 0 t u ≡ true
 meets_alone S a H t u l one bt bu ne =
     let m = meets_exists S a H t u l (begun_place H t bt) (begun_place H u bu) ne in
@@ -44,7 +44,7 @@ begun_from : (H : List Event) (t : ℕ) → began_at H t < length H → begun H 
 unfolding begun
 begun_from H t h = lt-ltb _ _ h
 
--- who has a version is typed
+-- a transaction with a version has begun and has a type of the tree
 pub writer_typed : (f : Facts) (x : Cell) (w : ℕ) → Lawful (setup_of f) (events_of f) → has_version (events_of f) x w ≡ true → IsTyped f w
 writer_typed f x w l v =
     let b = writer_began (setup_of f) (events_of f) w x l (version_parts (events_of f) x w v).0 in
@@ -58,7 +58,7 @@ unwritten true true h k = absurd (cc)
 unwritten true false h k = absurd (cc)
 unwritten false c h k = refl
 
--- a Put that has come stands before one that has not
+-- a Put that has happened is earlier than one that has not
 coming_later : (H : List Event) (w t : ℕ) (x : Cell) → wrote H w x ≡ true → wrote H t x ≡ false → ltb (put_at H w x) (put_at H t x) ≡ true
 unfolding wrote
 coming_later H w t x there absent = let a = ltb-true _ _ there in let b = ltb-false _ _ absent in lt-ltb _ _ (omega arith)
@@ -71,19 +71,19 @@ module _ (f : Facts) (x : Cell) (n w t : ℕ) (a : TreeFacts (setup_of f)) (l : 
   pub pair_behind : aborted (events_of f) t ≡ false → meets (setup_of f) (events_of f) n t w ≡ true → IsPair f n t w
   pair_behind na h = record { left = ty; right = writer_typed f x w l v; meet = h; left_stands = na; right_stands = (version_parts (events_of f) x w v).1 }
 
-  -- the node's order of their versions is the order of versions
+  -- the node's order of their versions is the version order
   pub order_there : meets (setup_of f) (events_of f) n w t ≡ true → orders (setup_of f) (events_of f) n x w t ≡ precedes (setup_of f) (events_of f) x w t
   order_there h = sym (precedes_at (setup_of f) a (events_of f) n x w t l (writer_began (setup_of f) (events_of f) w x l (version_parts (events_of f) x w v).0) (begun_place (events_of f) t ty.begun)
       h)
 
-  -- and where t has not put x its version will be the later one, but at a timestamp node
+  -- if t has not put x and the node is not a timestamp node, t's version will be the later one
   pub later_there : is_timestamp (row (setup_of f).tree n).control ≡ false → has_version (events_of f) x t ≡ false → aborted (events_of f) t ≡ false → meets (setup_of f) (events_of f) n w t ≡ true
       → true ≡ precedes (setup_of f) (events_of f) x w t
   later_there k none na h =
       let not_put : wrote (events_of f) t x ≡ false = unwritten (wrote (events_of f) t x) (aborted (events_of f) t) none na in
       sym (orders_put (setup_of f) (events_of f) n x w t k ∙ coming_later (events_of f) w t x (version_parts (events_of f) x w v).0 not_put) ∙ order_there h
 
-  -- t sees what the node shows it
+  -- t sees w if and only if the node's control says so
   pub sight_there : w ≢ t → meets (setup_of f) (events_of f) n t w ≡ true → sees_by (row (setup_of f).tree n).control (setup_of f) (events_of f) n x t w ≡ sees (setup_of f) (events_of f) x t w
   unfolding sees
   sight_there ne h =
@@ -92,7 +92,7 @@ module _ (f : Facts) (x : Cell) (n w t : ℕ) (a : TreeFacts (setup_of f)) (l : 
       let p = version_parts (events_of f) x w v in
       rw (ne_eqb w t ne, p.0, p.1, e) refl
 
--- where no timestamp node is on t's path, and t has not put x, its version will be later than each that is there
+-- if no timestamp node is on t's path and t has not put x, t's version will be later than each existing one
 pub later_than_all : (f : Facts) (x : Cell) (w t : ℕ) → TreeFacts (setup_of f) → Lawful (setup_of f) (events_of f) → has_version (events_of f) x w ≡ true → IsTyped f t →
     MeetsNoTimestamp (setup_of f) (events_of f) t → has_version (events_of f) x t ≡ false → aborted (events_of f) t ≡ false → true ≡ precedes (setup_of f) (events_of f) x w t
 unfolding on_path

@@ -1,4 +1,4 @@
--- One more event: who has a version, its value, and the order of versions.
+-- One more event: which transactions have a version, its value, and the version order.
 use Rattle.std.proofs.Common.{ℕ, ◌≡◌, ◌≢◌, ◌≤◌, ◌<◌, min, Bool, true, false, not, ◌||◌, ◌&&◌, eqb, List, [], ◌∷◌, Option, Some, refl, sym, ap, ap₂, subst, ◌∙◌, arith, inl, inr, ℤ, length, ltb-true, eq-eqb, eqb-true, ne_eqb}
 use Rattle.std.proofs.lemmas.Bool.{both_ways}
 use Rattle.teb_names.specs.declared.Cell.{Cell}
@@ -30,7 +30,7 @@ use Rattle.candidate_reads.proofs.Sources.{Strict, writer_began}
 version-cons : (e : Event) (P : List Event) (x : Cell) (w : ℕ) → has_version (e ∷ P) x w ≡ ((is_put w x e || wrote P w x) && not (is_gone w e || aborted P w))
 version-cons e P x w = ap₂ (λ (a b : Bool). a && not b) (wrote-cons e P w x) (aborted-cons e P w)
 
--- who has a version: the same, one more, or one less
+-- the transactions with a version of x: unchanged, one more, or one fewer
 pub version_same : (e : Event) (P : List Event) (x : Cell) (w : ℕ) → is_put w x e ≡ false → is_gone w e ≡ false → has_version (e ∷ P) x w ≡ has_version P x w
 version_same e P x w p g = version-cons e P x w ∙ rw (p, g) refl
 
@@ -52,7 +52,7 @@ version_gone t c P x w = version-cons (Gone t c) P x w ∙ go (eqb t.0 w) (wrote
     go true false d = refl
     go false b d = refl
 
--- the values of the others stay
+-- the values of the other transactions' versions do not change
 pub values_same : (e : Event) (P : List Event) (x : Cell) (vs : List Version) → ((u : ℕ) → In u (writers_of vs) → is_put u x e ≡ false) → HaveLastValues P x vs → HaveLastValues (e ∷ P) x vs
 values_same e P x [] f h = tt
 values_same e P x (v ∷ vs) f h = (put_skip e P v.0.0 x (f v.0.0 (inl refl)) ∙ h.0, values_same e P x vs (λ u i. f u (inr i)) h.1)
@@ -64,7 +64,7 @@ value_put t x v P = rw (eq-eqb t.0 t.0 refl, same_itself x) refl
 pub put_by_other : (t : Txn) (x y : Cell) (v : Option ℤ) (u : ℕ) → t.0 ≢ u → is_put u y (Put t x v) ≡ false
 put_by_other t x y v u ne = rw (ne_eqb t.0 u ne) refl
 
--- what stands before the newest event
+-- the history before the newest event
 before_newest : (e : Event) (P : List Event) → upto (length P) (e ∷ P) ≡ P
 before_newest e P = upto_cons (length P) e P (omega arith) ∙ upto_all (length P) P (omega arith)
 
@@ -83,7 +83,7 @@ put_stays : (e : Event) (P : List Event) (u : ℕ) (x : Cell) → wrote P u x �
 unfolding wrote put_at
 put_stays e P u x h = stays (is_put u x) e P (ltb-true _ _ h)
 
--- the order of a version and a transaction that has begun
+-- a later event does not change the order of a version and a transaction that has begun
 pub precedes_stays : (S : Setup) (a : TreeFacts S) (e : Event) (P : List Event) (x : Cell) (u w : ℕ) → Lawful S (e ∷ P) → began_at P u < length P → began_at P w < length P → wrote P u x ≡ true → u ≢ w
     → precedes S P x u w ≡ precedes S (e ∷ P) x u w
 precedes_stays S a e P x u w l bu bw pu ne =

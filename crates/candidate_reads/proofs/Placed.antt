@@ -1,4 +1,4 @@
--- Where a transaction's version belongs among those that are there.
+-- The place of a transaction's version among the existing ones.
 use Rattle.std.proofs.Common.{ℕ, ◌≡◌, ◌≢◌, suc, ◌+◌, ◌≤◌, Bool, true, false, cond, eqb, IfSome, List, Option, Some, None, refl, sym, ap, subst, ◌∙◌, arith, inl, inr, length, get_or, slice_get, ◌<◌, eqb-true, eq-eqb}
 use Rattle.std.specs.Option.{option_map}
 use Rattle.std.proofs.lemmas.Bool.{both_ways, cases_order, and_parts, and_from, or_cases, not-true, not_from_false}
@@ -34,15 +34,15 @@ pub unfinished_stands : (H : List Event) (t : ℕ) → unfinished H t ≡ true �
 unfolding unfinished
 unfinished_stands H t h = not-true _ (and_parts _ _ h).1
 
--- what it is that p is the place of t's version of x among the versions vs
+-- p is the place of t's version of x among the versions vs
 abbrev pub IsPlaced : Setup → List Event → Cell → ℕ → List Version → Place → Type 0
 IsPlaced S H x t vs p = IsPlaceOf S H x t p.at (writers_of vs) × (is_writer vs t ≡ true → slice_get (writers_of vs) p.at ≡ Some t) × (p.is_there ≡ is_writer vs t)
 
--- what it is that a version was found in vs, and that it is t's, or else the last one that is before t's
+-- f is t's version in vs, or else the last version that precedes t's
 abbrev pub IsFound : Setup → List Event → Cell → ℕ → List Version → Option Found → Type 0
 IsFound S H x t vs f = (option_map (λ v. v.at) f ≡ own_or_last t (λ w. precedes S H x w t) (writers_of vs)) × IfSome f (λ v. slice_get vs v.at ≡ Some (v.writer, v.value))
 
--- t's own version stands where it belongs
+-- t's own version is at its place
 own_place : (S : Setup) (H : List Event) (x : Cell) (t i : ℕ) (ws : List ℕ) → Pairs (Strict S H x) ws → i < length ws → slice_get ws i ≡ Some t → IsPlaceOf S H x t i ws
 own_place S H x t i ws order here it = record {
   within = omega arith;
@@ -61,7 +61,7 @@ own_place S H x t i ws order here it = record {
     own : get_or ws i 0 ≡ t
     own = get_or_from_slice_get ws i t 0 it
 
--- a version that is not there belongs behind the last one that precedes it
+-- a new version belongs directly after the last one that precedes it
 module _ (S : Setup) (H : List Event) (x : Cell) (t : ℕ) (ws : List ℕ) (order : Pairs (Strict S H x) ws)
     (along : (u v : ℕ) → In u ws → In v ws → precedes S H x u v ≡ true → precedes S H x v t ≡ true → precedes S H x u t ≡ true) where
   place_behind : (i : ℕ) → IsLast (λ w. precedes S H x w t) ws (Some i) → IsPlaceOf S H x t (i + 1) ws
@@ -100,7 +100,7 @@ module _ (S : Setup) (H : List Event) (L : Cell → List Version) (l : Lawful S 
   pub versions_counted : length (L x) ≤ suc (begun_count H)
   versions_counted = rw length-map at writers_counted
 
-  -- and each place is one of so many
+  -- the index of a version is at most the number of transactions that have begun
   pub found_counted : (f : Option Found) → IfSome f (λ v. slice_get (L x) v.at ≡ Some (v.writer, v.value)) → IfSome f (λ v. v.at ≤ begun_count H)
   found_counted None g = g
   found_counted (Some v) g = let within = slice_get_within (L x) v.at (v.writer, v.value) g in let most = versions_counted in omega arith
@@ -108,7 +108,7 @@ module _ (S : Setup) (H : List Event) (L : Cell → List Version) (l : Lawful S 
   place_own : (t i : ℕ) → Some i ≡ first_place (λ w. eqb w t) (writers_of (L x)) → IsPlaceOf S H x t i (writers_of (L x))
   place_own t i e = let r = own_found (writers_of (L x)) t i e in own_place S H x t i (writers_of (L x)) (h.order x) r.0 r.1
 
-  -- who may write and has no place is unfinished
+  -- a transaction that may write the cell and has no version of it is unfinished
   pub about_to : (t : ℕ) → aborted H t ≡ false → Writes H t x → None ≡ first_place (λ w. eqb w t) (writers_of (L x)) → unfinished H t ≡ true
   about_to t na w e = elim (or_cases (wrote H t x) (unfinished H t) w) [
     | inl p ↦ absurd (both_ways _ (sym (h.writers x t) ∙ own_absent (writers_of (L x)) t e) (and_from _ _ p (not_from_false _ na)))
@@ -125,7 +125,7 @@ module _ (S : Setup) (H : List Event) (L : Cell → List Version) (l : Lawful S 
     place_at_front : None ≡ last_place (λ w. precedes S H x w t) (writers_of (L x)) → IsPlaceOf S H x t 0 (writers_of (L x))
     place_at_front q = place_first S H x t (writers_of (L x)) (h.order x) along_t (is_last (λ w. precedes S H x w t) (writers_of (L x)) None q)
 
-  -- the version found leads to the place of t's version
+  -- the version that was found determines the place of t's version
   pub placed : TreeFacts S → (t : ℕ) → aborted H t ≡ false → Writes H t x → (f : Option Found) → IsFound S H x t (L x) f → IsPlaced S H x t (L x) (place_from f t)
   placed a t na w None r =
       let none = nothing_at t _ (writers_of (L x)) r.0 in

@@ -1,4 +1,4 @@
--- Chains that hold the versions of a history hold those of the history with one more Put, once the version has its value, or its place.
+-- Chains that hold the versions of a history hold those of the history with one more Put if the version is overwritten or inserted at its place.
 use Rattle.std.proofs.Common.{ℕ, ◌≡◌, ◌≢◌, ◌⊎◌, zero, suc, ◌≤◌, ◌<◌, Bool, true, false, ◌||◌, eqb, List, [], ◌∷◌, Option, Some, IsFalse, refl, sym, ap, subst, ◌∙◌, arith, inl, inr, ℤ, slice_get, eq-eqb, eqb-true}
 use Rattle.std.proofs.lemmas.Bool.{both_ways, cases_Bool, false_from_ne_true}
 use Rattle.std.proofs.lemmas.Option.{slice_get-get_or}
@@ -34,7 +34,7 @@ use Rattle.teb_history.specs.Accesses.{last_put}
 use Rattle.teb_laws.proofs.Lists.{Pairs-weaker}
 use Rattle.candidate_reads.proofs.KeptVersions.{HoldsCell, cell_of, all_cells, have, cell_kept}
 
--- an edit of one list
+-- a Put changes the versions of its cell only
 elsewhere : (t : Txn) (x y : Cell) (v : Option ℤ) (u : ℕ) → same_cell y x ≡ false → is_put u y (Put t x v) ≡ false
 elsewhere t x y v u e = rw (same_cell-other y x e) (and_false (eqb t.0 u))
 
@@ -50,7 +50,7 @@ granted_put : (S : Setup) (t : Txn) (x : Cell) (v : Option ℤ) (P : List Event)
 unfolding Lawful
 granted_put S t x v P l = (l.0.unfinished, l.1)
 
--- another value at a place
+-- overwriting the value at an index keeps the writers
 writers-set_value : (i : ℕ) (v : Option ℤ) (vs : List Version) → writers_of (set_value i v vs) ≡ writers_of vs
 writers-set_value i v [] = refl
 writers-set_value zero v (w ∷ vs) = refl
@@ -89,13 +89,13 @@ cell_overwritten S a t x v P vs i l at h =
     covered true f = f refl
     covered false f = refl
 
--- a Put of t, whose version at place i has the value
+-- a Put of t that overwrites the value of its version at index i
 pub versions_overwritten : (S : Setup) (a : TreeFacts S) (t : Txn) (x : Cell) (v : Option ℤ) (P : List Event) (L M : Cell → List Version) (i : ℕ) → Lawful S (Put t x v ∷ P) → HoldsVersions S P L →
     slice_get (writers_of (L x)) i ≡ Some t.0 → M x ≡ set_value i v (L x) → ((y : Cell) → IsFalse (same_cell y x) → M y ≡ L y) → HoldsVersions S (Put t x v ∷ P) M
 versions_overwritten S a t x v P L M i l h at e f = put_cells S a t x v P L M l h f
     (subst (λ (vs : List Version). HoldsCell S (Put t x v ∷ P) x vs) (sym e) (cell_overwritten S a t x v P (L x) i l at (cell_of S P L x h)))
 
--- one more at a place
+-- a version is inserted at an index
 writers-insert : (vs : List Version) (at : ℕ) (p : Version) → writers_of (insert vs at p) ≡ insert (writers_of vs) at p.0.0
 writers-insert [] zero p = refl
 writers-insert [] (suc at) p = refl
@@ -135,7 +135,7 @@ values-insert H x [] (suc at) p e h = (e, tt)
 values-insert H x (v ∷ vs) zero p e h = (e, h)
 values-insert H x (v ∷ vs) (suc at) p e h = (h.0, values-insert H x vs at p e h.1)
 
--- a Put of t, which had no version of x
+-- a Put of t, which has no version of x
 module _ (S : Setup) (a : TreeFacts S) (t : Txn) (x : Cell) (v : Option ℤ) (P : List Event) (vs : List Version) (l : Lawful S (Put t x v ∷ P)) (h : HoldsCell S P x vs)
     (absent : is_writer vs t.0 ≡ false) where
   stands : aborted P t.0 ≡ false
@@ -153,7 +153,7 @@ module _ (S : Setup) (a : TreeFacts S) (t : Txn) (x : Cell) (v : Option ℤ) (P 
   differs : (w : ℕ) → In w (writers_of vs) → w ≢ t.0
   differs w i e = both_ways _ absent (In_among t.0 (writers_of vs) (subst (λ (z : ℕ). In z (writers_of vs)) e i))
 
-  -- the order with t's version is what it was
+  -- the order of t's version and each other version does not change
   order_with : (w : ℕ) → In w (writers_of vs) → precedes S P x w t.0 ≡ precedes S (Put t x v ∷ P) x w t.0
   order_with w i =
       let g = granted_put S t x v P l in
@@ -186,7 +186,7 @@ module _ (S : Setup) (a : TreeFacts S) (t : Txn) (x : Cell) (v : Option ℤ) (P 
         (λ i w b e. comes_before w (stands_in (writers_of vs) i w e) (place.behind i w b e)));
   }
 
--- a Put of t, whose version is put in at its place
+-- a Put of t that inserts its version at its place
 pub versions_placed : (S : Setup) (a : TreeFacts S) (t : Txn) (x : Cell) (v : Option ℤ) (P : List Event) (L M : Cell → List Version) (at : ℕ) → Lawful S (Put t x v ∷ P) → HoldsVersions S P L →
     IsFalse (is_writer (L x) t.0) → IsPlaceOf S P x t.0 at (writers_of (L x)) → M x ≡ insert (L x) at (t, v) → ((y : Cell) → IsFalse (same_cell y x) → M y ≡ L y) → HoldsVersions S (Put t x v ∷ P) M
 versions_placed S a t x v P L M at l h absent place e f = put_cells S a t x v P L M l h f

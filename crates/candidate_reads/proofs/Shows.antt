@@ -1,4 +1,4 @@
--- What a node shows, by the answers of its control, and who has a version.
+-- What a node shows follows from the answers of its control; a transaction with a version has put the cell and is not aborted.
 use Rattle.std.proofs.Common.{◌≡◌, ℕ, Bool, true, false, List, sym, ◌∙◌, refl}
 use Rattle.std.proofs.lemmas.Bool.{and_parts, not-true}
 use Rattle.teb_names.specs.declared.Cell.{Cell}

@@ -1,4 +1,4 @@
--- The last version that is seen is the one that the read rule names.
+-- The last version in the chain that is seen is the one that the read rule gives.
 use Rattle.std.proofs.Common.{ℕ, ◌≡◌, ◌⊎◌, zero, suc, ◌<◌, Bool, true, false, not, eqb, List, [], ◌∷◌, Option, Some, None, refl, sym, ap, subst, ◌∙◌, arith, inl, inr, length, get_or, filter, unwrap_or, ltb-true, ℤ, slice_get}
 use Rattle.std.proofs.lemmas.Bool.{both_ways, cases_order, and_from, not-true, not_from_false, false_from_ne_true}
 use Rattle.std.proofs.lemmas.Option.{get_or_from_slice_get}
@@ -22,11 +22,11 @@ use Rattle.phase_api.specs.Versions.{HoldsVersions, HaveLastValues, has_version}
 use Rattle.candidate_reads.proofs.InOrder.{among_In, In_among, at-In, In-at, Pairs-at, find_only, find_nothing, own_found, own_absent}
 use Rattle.candidate_reads.proofs.Shows.{version_parts}
 
--- u's version is before w's, and not the other way round
+-- u's version precedes w's, and not the other way round
 abbrev pub Strict : Setup → List Event → Cell → ℕ → ℕ → Type 0
 Strict S H x u w = (precedes S H x u w ≡ true) × (precedes S H x w u ≡ false)
 
--- who has put a cell has begun
+-- a transaction that has put a cell has begun
 pub writer_began : (S : Setup) (H : List Event) (w : ℕ) (x : Cell) → Lawful S H → wrote H w x ≡ true → began_at H w < length H
 unfolding wrote
 writer_began S H w x l h = let p = ltb-true _ _ h in let o = put_order S H w x l p in let z = o.0 in omega arith
@@ -38,7 +38,7 @@ pub begun_place : (H : List Event) (t : ℕ) → begun H t ≡ true → began_at
 unfolding begun
 begun_place H t h = ltb-true _ _ h
 
--- of a list in version order, the last one that is seen is the latest of all that are seen
+-- in a list in version order, the last seen writer is the latest of all seen writers
 latest_place : (S : Setup) (H : List Event) (x : Cell) (t : ℕ) (ws : List ℕ) → Pairs (Strict S H x) ws → ((w : ℕ) → sees S H x t w ≡ true → In w ws) → ((w : ℕ) → In w ws → In w (txns H)) →
     (i : ℕ) → IsLast (sees S H x t) ws (Some i) → latest S H x (filter (sees S H x t) (txns H)) ≡ Some (get_or ws i 0)
 unfolding latest
@@ -63,7 +63,7 @@ latest_nobody : (S : Setup) (H : List Event) (x : Cell) (us : List ℕ) → ((u 
 unfolding latest
 latest_nobody S H x us f = find_nothing _ us f
 
--- who stands at a place; 0 where there is none
+-- the writer at an index, or 0 if there is none
 abbrev pub writer_at : List ℕ → Option ℕ → ℕ
 writer_at ws None = 0
 writer_at ws (Some i) = get_or ws i 0
@@ -79,7 +79,7 @@ source_seen S H x t ws order all begin = go (last_place (sees S H x t) ws) (last
         both_ways _ (r k.0 (omega arith) k.1) (subst (λ (z : ℕ). sees S H x t z ≡ true) (sym k.2) f.1)))
     go (Some i) r = ap (λ (o : Option ℕ). unwrap_or o 0) (latest_place S H x t ws order all begin i r)
 
--- the source of a read is the writer at the last place that is seen
+-- the source of a read is the last seen writer
 source_place : (S : Setup) (H : List Event) (x : Cell) (t : ℕ) (ws : List ℕ) → Lawful S H → wrote H t x ≡ false →
     ((w : ℕ) → In w ws → has_version H x w ≡ true) → ((w : ℕ) → has_version H x w ≡ true → In w ws) → Pairs (Strict S H x) ws →
     source S H t x ≡ writer_at ws (last_place (sees S H x t) ws)
@@ -88,7 +88,7 @@ source_place S H x t ws l nw have held order = rw nw (source_seen S H x t ws ord
     (λ w h. let p = sees_parts S H x t w h in held w (and_from _ _ p.1 (not_from_false _ p.2)))
     (λ w i. In-txns S H w l (writer_began S H w x l (version_parts H x w (have w i)).0)))
 
--- what stands at a place of a list of versions
+-- the version at an index of a list, and its writer
 pub at-writer : (vs : List Version) (i : ℕ) (v : Version) → slice_get vs i ≡ Some v → (get_or (writers_of vs) i 0 ≡ v.0.0) × In v.0.0 (writers_of vs)
 at-writer [] i v e = absurd (cc)
 at-writer (p ∷ ps) zero v e = let q : p ≡ v = cc in (ap (λ (z : Version). z.0.0) q, inl (ap (λ (z : Version). z.0.0) q))
@@ -103,7 +103,7 @@ version_of : (R : List (Cell × ℤ)) (H : List Event) (x : Cell) (w : ℕ) (v :
 version_of R H x zero v h e = absurd (omega arith)
 version_of R H x (suc w) v h e = ap (λ (o : Option (Option ℤ)). unwrap_or o None) e
 
--- what it is that w and v are what t reads of x
+-- t reads the value v of cell x from the version of w
 abbrev pub IsRead : Setup → List (Cell × ℤ) → List Event → ℕ → Cell → ℕ → Option ℤ → Type 0
 IsRead S R H t x w v = (w ≡ (read S R H t x).0) × (v ≡ (read S R H t x).1)
 
@@ -118,11 +118,11 @@ module _ (S : Setup) (R : List (Cell × ℤ)) (H : List Event) (t : ℕ) (x : Ce
   held : (w : ℕ) → has_version H x w ≡ true → In w (writers_of (L x))
   held w e = among_In w (writers_of (L x)) (h.writers x w ∙ e)
 
-  -- the value of a version that is there
+  -- a version in the chain has the value that its writer left
   version_at : (i : ℕ) (v : Version) → slice_get (L x) i ≡ Some v → version R H x v.0.0 ≡ v.1
   version_at i v g = version_of R H x v.0.0 v.1 (writer_counted S H v.0.0 x l (version_parts H x v.0.0 (have v.0.0 (at-writer (L x) i v g).1)).0) (at-value H x (L x) i v (h.values x) g)
 
-  -- t has a version of its own
+  -- t has a version: it reads its own
   pub read_own : (i : ℕ) (v : Version) → Some i ≡ first_place (λ w. eqb w t) (writers_of (L x)) → slice_get (L x) i ≡ Some v → IsRead S R H t x v.0.0 v.1
   unfolding source
   read_own i v e g =
@@ -130,7 +130,7 @@ module _ (S : Setup) (R : List (Cell × ℤ)) (H : List Event) (t : ℕ) (x : Ce
       let wr : wrote H t x ≡ true = (version_parts H x t (have t (subst (λ (z : ℕ). In z (writers_of (L x))) own (at-writer (L x) i v g).1))).0 in
       read_from_source S R H t x v.0.0 v.1 (rw wr (sym own)) (version_at i v g)
 
-  -- t has none
+  -- if t has no version of x, it has not put x
   not_wrote : aborted H t ≡ false → None ≡ first_place (λ w. eqb w t) (writers_of (L x)) → wrote H t x ≡ false
   not_wrote na e = false_from_ne_true _ (λ w. both_ways _ (own_absent (writers_of (L x)) t e) (h.writers x t ∙ and_from _ _ w (not_from_false _ na)))
 
@@ -138,29 +138,29 @@ module _ (S : Setup) (R : List (Cell × ℤ)) (H : List Event) (t : ℕ) (x : Ce
     source_there : source S H t x ≡ writer_at (writers_of (L x)) (last_place (sees S H x t) (writers_of (L x)))
     source_there = source_place S H x t (writers_of (L x)) l (not_wrote na e) have held (h.order x)
 
-    -- it sees the version at a place
+    -- t sees a version: it reads the last one that it sees
     pub read_seen : (i : ℕ) (v : Version) → Some i ≡ last_place (sees S H x t) (writers_of (L x)) → slice_get (L x) i ≡ Some v → IsRead S R H t x v.0.0 v.1
     read_seen i v p g = read_from_source S R H t x v.0.0 v.1 (source_there ∙ ap (writer_at (writers_of (L x))) (sym p) ∙ (at-writer (L x) i v g).0) (version_at i v g)
 
-    -- it sees none
+    -- t sees no version: it reads the starting row
     pub read_row : None ≡ last_place (sees S H x t) (writers_of (L x)) → IsRead S R H t x 0 (row_of R x)
     read_row p = read_from_source S R H t x 0 (row_of R x) (source_there ∙ ap (writer_at (writers_of (L x))) (sym p)) refl
 
-  -- what is found of its own, or else of those that it sees, is what it reads
+  -- t reads its own version, or else the last one that it sees
   pub read_found : aborted H t ≡ false → (i : ℕ) (v : Version) → Some i ≡ own_or_last t (sees S H x t) (writers_of (L x)) → slice_get (L x) i ≡ Some v → IsRead S R H t x v.0.0 v.1
   read_found na i v e g = elim (own_or_last_cases t (sees S H x t) (writers_of (L x)) (Some i) e) [
     | inl own ↦ read_own i v own.0 g
     | inr last ↦ read_seen na last.0 i v last.1 g
   ]
 
-  -- and else it reads the starting row
+  -- if there is neither, t reads the starting row
   pub read_nothing : aborted H t ≡ false → None ≡ own_or_last t (sees S H x t) (writers_of (L x)) → IsRead S R H t x 0 (row_of R x)
   read_nothing na e = elim (own_or_last_cases t (sees S H x t) (writers_of (L x)) None e) [
     | inl own ↦ absurd (own.1 refl)
     | inr last ↦ read_row na last.0 last.1
   ]
 
--- the version at the place of t's own is t's, and that at a later place is not
+-- the version that was found is t's own if and only if t is its writer
 pub own_at : (vs : List Version) (t i : ℕ) (p : ℕ → Bool) (v : Version) → Some i ≡ own_or_last t p (writers_of vs) → slice_get vs i ≡ Some v → v.0.0 ≡ t
     → Some i ≡ first_place (λ w. eqb w t) (writers_of vs)
 own_at vs t i p v e g is = elim (own_or_last_cases t p (writers_of vs) (Some i) e) [

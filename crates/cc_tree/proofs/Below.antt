@@ -16,12 +16,12 @@ use Rattle.cc_tree.specs.Grown.{kind_numbers, row_of, rows_of}
 use Rattle.cc_tree.specs.Rows.{clash}
 use Rattle.teb_laws.proofs.Lists.{list_any_from}
 
--- a type is in a list of types where its number is among theirs
+-- a type is in a list of types if and only if its number is among theirs
 pub among_kinds : (k : Kind) (ks : List Kind) → among k.0 (kind_numbers ks) ≡ list_any (λ m. eqb m.0 k.0) ks
 among_kinds k [] = refl
 among_kinds k (m ∷ ms) = ap (λ b. eqb m.0 k.0 || b) (among_kinds k ms)
 
--- the row that stands at a place
+-- the row at an index
 pub row_at : (rs : List Row) (n : ℕ) (r : Row) → n < length rs → r ≡ get_or rs n r → row (rows_of rs) n ≡ row_of r
 row_at rs n r h e = get_or-map row_of rs n r no_row h ∙ ap row_of (sym e)
 
@@ -46,7 +46,7 @@ any_below f T n h = any_map f T (below n) ∙ ap (list_any f) (rows_below T n h)
 pub has_children_is : (T : List NodeRow) (n : ℕ) → has_children T n ≡ list_any (λ r. is_child_of n r.parent) T
 has_children_is T n = any_below (λ r. is_child_of n r.parent) T (length T) (le_refl _) ∙ ap (list_any (λ r. is_child_of n r.parent)) (take_all (length T) T (le_refl _))
 
--- a node clashes with an earlier one, or repeats a type
+-- `is_twice` holds for a node that repeats a type or clashes with an earlier node
 pub is_twice_is : (rs : List Row) (n : ℕ) (r : Row) (es : List Row) → n < length rs → r ≡ get_or rs n r → es ≡ take n rs →
     is_twice (rows_of rs) n ≡ (repeats (kind_numbers r.types.items) || list_any (λ q. clash q (row_of r)) (rows_of es))
 is_twice_is rs n r es h e t =
@@ -55,7 +55,7 @@ is_twice_is rs n r es h e t =
     ap (λ (b : Bool). repeats (kind_numbers r.types.items) || b)
     (any_below (λ q. clash q (row_of r)) (rows_of rs) n z ∙ ap (list_any (λ q. clash q (row_of r))) (take-map row_of n rs ∙ ap (map row_of) (sym t)))
 
--- the first fault of a list in two parts
+-- the first fault of two lists appended
 first_append : (f : ℕ → Option Fault) (xs ys : List ℕ) → first_at f (xs ++ ys) ≡ or_fault (first_at f xs) (first_at f ys)
 first_append f [] ys = refl
 first_append f (x ∷ xs) ys = go (f x) (first_append f xs ys)
@@ -66,7 +66,7 @@ first_append f (x ∷ xs) ys = go (f x) (first_append f xs ys)
     go (Some w) ih = refl
     go None ih = ih
 
--- a list of one
+-- the first fault of a list of one
 first_one : (f : ℕ → Option Fault) (n : ℕ) (o : Option Fault) → f n ≡ o → first_at f (n ∷ []) ≡ elim o as (λ z. Option (ℕ × Fault)) [ Some w ↦ Some (n, w) | None ↦ None ]
 first_one f n o e = ap (λ (z : Option Fault). elim z as (λ z. Option (ℕ × Fault)) [ Some w ↦ Some (n, w) | None ↦ None ]) e
 
@@ -74,13 +74,13 @@ pub none_below : (f : ℕ → Option Fault) → first_at f (below 0) ≡ None
 unfolding below
 none_below f = refl
 
--- no fault below the next number
+-- if there is no fault below n and none at n, there is none below n + 1
 pub none_more : (f : ℕ → Option Fault) (n : ℕ) → first_at f (below n) ≡ None → f n ≡ None → first_at f (below (n + 1)) ≡ None
 unfolding below
 none_more f n h e = ap (λ (z : ℕ). first_at f (below z)) (let z : n + 1 ≡ suc n = omega arith in z) ∙ first_append f (below n) (n ∷ [])
     ∙ ap (λ (o : Option (ℕ × Fault)). or_fault o (first_at f (n ∷ []))) h ∙ first_one f n None e
 
--- the first fault stands at n
+-- a fault at n with none below it is the first fault
 pub first_below : (f : ℕ → Option Fault) (n m : ℕ) (w : Fault) → first_at f (below n) ≡ None → n < m → f n ≡ Some w → first_at f (below m) ≡ Some (n, w)
 unfolding below
 first_below f n zero w h l e = absurd (omega arith)
@@ -89,7 +89,7 @@ first_below f n (suc m) w h l e = first_append f (below m) (m ∷ []) ∙ elim (
   | inr k ↦ (let z : m ≡ n = omega arith in rw z (ap (λ (o : Option (ℕ × Fault)). or_fault o (first_at f (n ∷ []))) h ∙ first_one f n (Some w) e))
 ]
 
--- a list that is built number by number
+-- a list that is built number by number, from 0
 pub map_none : {X Y : Type 0} (g : X → Y) (f : ℕ → Y) (xs : List X) → xs ≡ [] → map g xs ≡ map f (below 0)
 unfolding below
 map_none g f xs e = ap (map g) e

@@ -24,7 +24,7 @@ among_under (j ∷ js) types k h i = elim (or_cases (eqb j.0 k) (among k (kind_n
   | inr e ↦ among_under js types k (λ m d l. h (suc m) d (omega arith)) e
 ]
 
--- what is asked of the rows
+-- the conditions on the stored rows
 pub record Asked (rs : List Row) (types : ℕ) : Type 0 where
   pub some : 0 < length rs
   pub few : length rs ≤ 64
@@ -33,14 +33,14 @@ pub record Asked (rs : List Row) (types : ℕ) : Type 0 where
   pub batches : All (λ r. (1 ≤ r.batch) × (r.batch ≤ 1024)) rs
   pub parts : All (λ r. (1 ≤ r.of) × (r.of ≤ 16) × (r.part < r.of)) rs
 
--- what holds of each stored row holds of each row of the tree
+-- a property of each stored row holds for each row of the tree
 each_row : (P : NodeRow → Type 0) (rs : List Row) → All (λ r. P (row_of r)) rs → (n : ℕ) → n < length (rows_of rs) → P (row (rows_of rs) n)
 each_row P [] h n l = absurd (omega arith)
 each_row P (r ∷ rs) h n l =
     let m : n < length (r ∷ rs) = omega (arith, length-map (r ∷ rs) row_of) in
     subst P (sym (get_or-map row_of (r ∷ rs) n r no_row m)) (h n r m)
 
--- rows of which this is asked, without a fault, are accepted
+-- rows that meet these conditions and have no fault are accepted
 pub accepted_rows : (rs : List Row) (types : ℕ) → Asked rs types → tree_fault (rows_of rs) types ≡ None → IsAccepted (record { rows = rows_of rs; types = types })
 accepted_rows rs types a e =
     let T : Grown = record { rows = rows_of rs; types = types } in
@@ -60,7 +60,7 @@ accepted_rows rs types a e =
       kinds = λ m k l i. each_row (λ r. among k r.types ≡ true → k < types) rs (λ j d h. among_under (get_or rs j d).types.items types k (a.kinds j d h)) m l i;
     }
 
--- the paths that are stored are those of the parts of each type
+-- the stored paths are those of the parts of each type
 pub stored_tree : (t : Inside) → IsAccepted (grown t) → paths_of t ≡ map (λ k. part_paths (rows_of t.rows.items) k) (below (length t.paths.items)) → IsStored t
 stored_tree t a e =
     let f : ℕ → List (List ℕ) = λ k. part_paths (rows_of t.rows.items) k in
@@ -72,6 +72,6 @@ stored_tree t a e =
       right = λ s h. ap (λ (z : List (List ℕ)). path_among z s) (at s.kind.0 h) ∙ (path_of_part (grown t) a s (omega arith)).1;
     }
 
--- and there are as many as types
+-- there is one list of paths for each type
 pub count_types : (t : Inside) (types : ℕ) → paths_of t ≡ map (λ k. part_paths (rows_of t.rows.items) k) (below types) → length t.paths.items ≡ types
 count_types t types e = sym (length-map t.paths.items part_lists) ∙ ap length e ∙ length-map (below types) (λ k. part_paths (rows_of t.rows.items) k) ∙ length_below types

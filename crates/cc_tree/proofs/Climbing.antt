@@ -6,7 +6,7 @@ use Rattle.teb_rules.specs.Tree.{row, climb}
 use Rattle.cc_tree.specs.Grown.{parent_number}
 use Rattle.cc_tree.specs.Ways.{Climbs}
 
--- where a parent may be taken, the way goes on from it
+-- if the node has a parent, the climb continues from it; otherwise it ends
 climb_suc : (T : List NodeRow) (d n : ℕ) (lower : List ℕ) (o : Option ℕ) → (row T n).parent ≡ o
     → climb T (suc d) n lower ≡ elim o as (λ z. List ℕ) [ None ↦ n ∷ lower | Some p ↦ climb T d p (n ∷ lower) ]
 unfolding climb

@@ -1,4 +1,4 @@
--- An accepted tree has what the laws use of a tree.
+-- An accepted tree has the properties that the laws require of a tree.
 use Rattle.std.proofs.Common.{◌≡◌, ℕ, ◌<◌, [], length, None, arith}
 use Rattle.teb_rules.specs.Setup.{Setup}
 use Rattle.teb_rules.specs.Accepted.{HasProfiles, IsSound, tree_fault}

@@ -1,4 +1,4 @@
--- What the follower of a node on a path tells: whether the node is on it, and its side.
+-- The follower of a node on a path tells whether the node is on the path, and its side.
 use Rattle.std.proofs.Common.{◌≡◌, ℕ, Bool, true, false, cond, ◌||◌, eqb, List, [], ◌∷◌, Option, Some, None, refl, ◌∙◌, ap}
 use Rattle.teb_names.specs.declared.Node.{Node}
 use Rattle.teb_rules.specs.Setup.{among}
@@ -45,7 +45,7 @@ follower_next n own (m ∷ l ∷ ls) = go (eqb m.0 n) (follower_next n own (l �
     go true ih = refl
     go false ih = ih
 
--- what is told where the follower is known
+-- both are known if the follower is known
 module _ (n : ℕ) (ns : List Node) (f : Follower) (e : f ≡ follower_in n ns) where
   pub known_there : is_there f ≡ among n (node_numbers ns)
   known_there = ap is_there e ∙ follower_there n ns

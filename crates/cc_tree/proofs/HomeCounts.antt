@@ -1,4 +1,4 @@
--- The leaves of a type: how many there are, and into how many parts it is parted.
+-- The leaves of a type: their number, and the number of parts of the type.
 use Rattle.std.proofs.Common.{◌≡◌, ℕ, suc, Bool, true, false, cond, ltb, List, [], ◌∷◌, length, map, filter, count_by, Option, Some, None, refl, sym, ◌∙◌, ap, le_refl}
 use Rattle.std.specs.List.{find}
 use Rattle.std.specs.Option.{option_map}
@@ -10,7 +10,7 @@ use Rattle.teb_rules.specs.Accepted.{are_few, homes, is_homeless}
 use Rattle.cc_tree.specs.Homes.{parts_of}
 use Rattle.cc_tree.proofs.Below.{rows_below}
 
--- too few rows for the parts of the first
+-- there are fewer rows than parts of the first row
 abbrev few_rows : List NodeRow → Bool
 few_rows [] = true
 few_rows (r ∷ rs) = ltb (suc (length rs)) r.parts
@@ -52,7 +52,7 @@ homeless_is T k =
     (filter_rows (λ r. among k r.types) T (below (length T)) ∙ ap (filter (λ r. among k r.types)) (rows_below T (length T) (le_refl _) ∙ take_all (length T) T (le_refl _))) ∙
     few_filter (λ r. among k r.types) T ∙ ap (few_by (parts_of k T)) (length-filter (λ r. among k r.types) T)
 
--- a type without a row is homeless, and one with fewer rows than parts
+-- a type is homeless if it has no row, or fewer rows than parts
 pub homeless_none : (T : List NodeRow) (k : ℕ) → parts_of k T ≡ None → is_homeless T k ≡ true
 homeless_none T k e = homeless_is T k ∙ ap (λ (o : Option ℕ). few_by o (count_by (λ r. among k r.types) T)) e
 

@@ -1,4 +1,4 @@
--- The node at which two paths of an accepted tree part is the lowest on both, and the one at which transactions meet.
+-- The node at which two paths of an accepted tree part is the lowest on both, and transactions with these paths meet there.
 use Rattle.std.proofs.Common.{◌≡◌, ◌≢◌, ℕ, ◌<◌, Bool, true, false, eqb, List, [], ◌∷◌, ◌++◌, length, find, Option, Some, unwrap_or, refl, sym, ◌∙◌, ap, subst, inl, inr, eq-eqb, ne_eqb}
 use Rattle.std.proofs.lemmas.Bool.{or_left, or_right, false_from_ne_true}
 use Rattle.teb_names.specs.declared.Spot.{Spot}
@@ -15,7 +15,7 @@ use Rattle.cc_tree.specs.Sound.{IsAccepted}
 use Rattle.cc_tree.proofs.Facts.{setup_of_tree, facts_of}
 use Rattle.cc_tree.proofs.Paths.{next_split, path_within}
 
--- what two lists share in front is shared
+-- the search for the last shared node skips the common front of two lists
 shared_front : (above n : ℕ) (xs ls ms : List ℕ) → last_shared above (xs ++ n ∷ ls) (xs ++ n ∷ ms) ≡ last_shared n ls ms
 shared_front above n [] ls ms = rw (eq-eqb n n refl) refl
 shared_front above n (x ∷ xs) ls ms = rw (eq-eqb x x refl) (shared_front x n xs ls ms)
@@ -30,7 +30,7 @@ parts_at S above p q r = rw (r.is_left, r.is_right) (shared_front above r.node r
   ]
 ])
 
--- the two paths, and where they part
+-- any two paths of the tree part at some node
 pub part_of : (T : Grown) → IsAccepted T → (a b : Spot) → a.kind.0 < T.types → b.kind.0 < T.types → Parting (setup_of_tree T) (path T.rows a) (path T.rows b)
 part_of T g a b ha hb = parting (setup_of_tree T) (path T.rows a) (path T.rows b) (path_good (setup_of_tree T) (facts_of T g) a ha).rooted (path_good (setup_of_tree T) (facts_of T g) b hb).rooted
 
@@ -61,7 +61,7 @@ on_at : (T : List NodeRow) (s : Spot) (n : ℕ) (xs ls : List ℕ) → path T s 
 unfolding on_path
 on_at T s n xs ls e = rw e (among_middle n xs ls)
 
--- it is the lowest node on both paths
+-- the parting node is the lowest node on both paths
 pub lowest_of : (T : Grown) (g : IsAccepted T) (a b : Spot) → a.kind.0 < T.types → b.kind.0 < T.types → (r : Parting (setup_of_tree T) (path T.rows a) (path T.rows b)) → IsLowest T.rows a b r.node
 lowest_of T g a b ha hb r =
     let f = facts_of T g in
@@ -83,7 +83,7 @@ find_first : (p : ℕ → Bool) (n : ℕ) (xs ls : List ℕ) → ((m : ℕ) → 
 find_first p n [] ls f h = rw h refl
 find_first p n (x ∷ xs) ls f h = rw (f x (or_left (eqb x x) (among x xs) (eq-eqb x x refl))) (find_first p n xs ls (λ m i. f m (or_right (eqb x m) (among m xs) i)) h)
 
--- for any setup with this tree
+-- the same for any setup with this tree
 of_tree : (T : Grown) (g : IsAccepted T) (a b : Spot) → a.kind.0 < T.types → b.kind.0 < T.types → (r : Parting (setup_of_tree T) (path T.rows a) (path T.rows b))
     → (S : Setup) (H : List Event) (t u : ℕ) → S.tree ≡ T.rows → spot_of H t ≡ a → spot_of H u ≡ b → t ≢ u → find (λ n. meets S H n t u) (path S.tree (spot_of H t)) ≡ Some r.node
 unfolding on side on_path side_at
@@ -97,12 +97,12 @@ of_tree T g a b ha hb r S H t u tree st su ne =
     (meets_from S H r.node t u (ap (among r.node) fa ∙ among_middle r.node r.front r.left) (ap (among r.node) fb ∙ among_middle r.node r.front r.right)
     (λ e. sides_differ T g a b ha hb r t u ne (ap (next_of r.node t) (sym ea) ∙ e ∙ ap (next_of r.node u) eb))))
 
--- two different transactions with these spots meet there
+-- two different transactions with these spots meet at the parting node
 pub meet_of : (T : Grown) (g : IsAccepted T) (a b : Spot) → a.kind.0 < T.types → b.kind.0 < T.types → (r : Parting (setup_of_tree T) (path T.rows a) (path T.rows b)) → IsMeet T.rows a b r.node
 unfolding meet
 meet_of T g a b ha hb r S H t u tree st su ne = ap (λ (o : Option ℕ). unwrap_or o 255) (of_tree T g a b ha hb r S H t u tree st su ne)
 
--- what the walk down two paths finds
+-- the result of a walk down two paths
 pub record Found (T : Grown) (a b : Spot) (n : ℕ) : Type 0 where
   pub lowest : IsLowest T.rows a b n
   pub meet : IsMeet T.rows a b n

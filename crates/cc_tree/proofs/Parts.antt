@@ -1,4 +1,4 @@
--- The paths of the parts of a type, in an accepted tree, are those of all its instances.
+-- In an accepted tree, the paths of a type's parts are the paths of all its instances.
 use Rattle.std.proofs.Common.{◌≡◌, ℕ, zero, suc, ◌%◌, ◌<◌, Bool, true, false, cond, ◌&&◌, eqb, List, [], ◌∷◌, ◌++◌, length, get_or, map, Option, Some, unwrap_or, refl, sym, ◌∙◌, ap, subst, inl, inr, arith, find}
 use Rattle.std.specs.Option.{option_map}
 use Rattle.std.proofs.lemmas.Bool.{cases_Bool, cases_lt, cases_eq}
@@ -29,7 +29,7 @@ same_parts T a k m n hm hn im in_n =
       ]
     ]
 
--- the first row that passes, where one passes
+-- the first row that passes p
 record First (p : NodeRow → Bool) (T : List NodeRow) : Type 0 where
   node : ℕ
   within : node < length T
@@ -52,7 +52,7 @@ first_row p (r ∷ rs) n h e = elim (cases_Bool (p r)) [
       passes = f.passes;
     }
 
--- the number of parts of a type: that of each of its homes
+-- p is the number of parts of type k, and of each of its homes
 record Parted (T : Grown) (k p : ℕ) : Type 0 where
   is : unwrap_or (parts_of k T.rows) 0 ≡ p
   some : 0 < p
@@ -117,11 +117,11 @@ get_below (suc n) i d h = elim (cases_lt i n) [
   | inr l ↦ (let e : i ≡ length (below n) = omega (arith, length_below n) in ap (λ (z : ℕ). get_or (below n ++ n ∷ []) z d) e ∙ get_last (below n) n d ∙ (let z : n ≡ i = omega arith in z))
 ]
 
--- what stands at a place of a list that is built number by number
+-- the element at an index of a list that is built number by number
 pub get_map : {Y : Type 0} (f : ℕ → Y) (n i : ℕ) (e : Y) → i < n → get_or (map f (below n)) i e ≡ f i
 get_map f n i e h = let l : i < length (below n) = omega (arith, length_below n) in get_or-map f (below n) i 0 e l ∙ ap f (get_below n i 0 h)
 
--- the path that is found among those of the parts
+-- the path that is found among those of the parts is the path of the spot
 pub path_of_part : (T : Grown) → IsAccepted T → (s : Spot) → s.kind.0 < T.types → (0 < length (part_paths T.rows s.kind.0)) × (path_among (part_paths T.rows s.kind.0) s ≡ path T.rows s)
 unfolding part_paths path
 path_of_part T a s h =

@@ -35,7 +35,7 @@ nodes_within T a s h ns e = λ k d l.
     path_within T a s h (get_or ns k d).0 (subst (λ (xs : List ℕ). among (get_or ns k d).0 xs ≡ true) e
     (list_any_at (λ m. eqb m (get_or ns k d).0) (node_numbers ns) k d.0 z (eq-eqb _ _ g)))
 
--- what follows a node in a list is of the list, or stands in the place of what is behind the last
+-- `next_of` gives an element of the list, or `own`
 next_among : (n own : ℕ) (xs : List ℕ) → (next_of n own xs ≡ own) ⊎ (among (next_of n own xs) xs ≡ true)
 unfolding next_of
 next_among n own [] = inl refl
@@ -55,20 +55,20 @@ child_within T a s h n m f =
       | inr i ↦ path_within T a s h m (subst (λ (z : ℕ). among z (path T.rows s) ≡ true) (sym e) i)
     ]
 
--- behind n on a path comes what stands there, or else the own side
+-- `next_of` gives the node after n on the path, or `own` if n is the last
 pub next_split : (T : Grown) → IsAccepted T → (s : Spot) → s.kind.0 < T.types → (n : ℕ) (xs ls : List ℕ) → path T.rows s ≡ xs ++ n ∷ ls → (own : ℕ) → next_of n own (path T.rows s) ≡ head_or own ls
 next_split T a s h n xs ls e own =
     let g = path_good (setup_of_tree T) (facts_of T a) s h in
     let r : Pairs (λ a b. a < b) (xs ++ n ∷ ls) = subst (λ (z : List ℕ). Pairs (λ a b. a < b) z) e g.rising in
     ap (next_of n own) e ∙ next_at n own xs ls (rising_front xs n ls r)
 
--- behind the leaf comes the own side
+-- at the leaf, `next_of` gives `own`
 pub side_leaf : (T : Grown) → IsAccepted T → (s : Spot) → s.kind.0 < T.types → (n own : ℕ) → n ≡ leaf T.rows s → next_of n own (path T.rows s) ≡ own
 unfolding head_or
 side_leaf T a s h n own e = ap (λ (z : ℕ). next_of z own (path T.rows s)) e ∙ next_split T a s h (leaf T.rows s) (front_of (setup_of_tree T) (facts_of T a) (leaf T.rows s)) []
     (path_leaf (setup_of_tree T) (facts_of T a) s h) own
 
--- only behind the leaf
+-- only at the leaf does `next_of` always give `own`
 pub leaf_side : (T : Grown) → IsAccepted T → (s : Spot) → s.kind.0 < T.types → (n : ℕ) → on_path T.rows n s ≡ true → ((own : ℕ) → next_of n own (path T.rows s) ≡ own) → n ≡ leaf T.rows s
 unfolding head_or
 leaf_side T a s h n on f =
@@ -81,7 +81,7 @@ leaf_side T a s h n on f =
         ∙ end_is (leaf T.rows s) (front_of (setup_of_tree T) (facts_of T a) (leaf T.rows s))
     go (l ∷ ls) e = let q : l ≡ suc l = sym (next_split T a s h n (front_of (setup_of_tree T) (facts_of T a) n) (l ∷ ls) e (suc l)) ∙ f (suc l) in absurd (omega arith)
 
--- the answer of `side` is none exactly at the leaf
+-- `side` answers None if and only if the node is the leaf
 pub none_at_leaf : (T : Grown) → IsAccepted T → (s : Spot) → s.kind.0 < T.types → (n : ℕ) → on_path T.rows n s ≡ true → (r : Option Node)
     → ((own : ℕ) → side_number r own ≡ next_of n own (path T.rows s)) → (r ≡ None) ↔ (n ≡ leaf T.rows s)
 none_at_leaf T a s h n on None f = ((λ e. leaf_side T a s h n on (λ own. sym (f own))), λ e. refl)

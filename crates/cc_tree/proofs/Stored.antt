@@ -13,7 +13,7 @@ use Rattle.cc_tree.specs.Stored.{IsStored, paths_of, path_among}
 abbrev parts_of : Vec (List Node) Global → List (List ℕ)
 parts_of ps = map node_numbers ps.items
 
--- what is read at the place of the type, and there at the place of the part, is the path
+-- the stored list at the type's index, read at the part's index, is the path of the spot
 pub stored_path : (t : Inside) → IsStored t → (s : Spot) → s.kind.0 < length t.paths.items → (ps : Vec (List Node) Global) (p : List Node) (k i : ℕ) →
     k ≡ s.kind.0 → ps ≡ get_or t.paths.items k ps → i ≡ s.instance % length ps.items → p ≡ get_or ps.items i p → node_numbers p ≡ path (rows_of t.rows.items) s
 stored_path t st s h ps p k i ek eps ei ep =

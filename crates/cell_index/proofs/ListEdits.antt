@@ -1,4 +1,4 @@
--- What the list of each cell is after a cell is added, and after an edit of the list of one.
+-- The list of each cell after a cell is added, and after an edit of one list.
 use Rattle.std.proofs.Common.{◌≡◌, ℕ, ◌<◌, Bool, true, false, cond, eqb, List, [], ◌∷◌, ◌++◌, length, get_or, set, inl, inr, refl, sym, ◌∙◌, ap, subst, arith, if◌then◌else◌}
 use Rattle.std.specs.List.{list_any, IsDistinct}
 use Rattle.std.proofs.lemmas.Map.Keys.{IsDistinct-push}
@@ -11,7 +11,7 @@ use Rattle.teb_names.proofs.SameCells.{same_cell-true, same_laws}
 use Rattle.cell_index.proofs.Places.{decided, place_none, place_absent, same_place, with_known, with_new, put_place, put_length}
 use Rattle.cell_index.proofs.Lists.{set_tells, list_with_place, length-with_place, grown}
 
--- what is made of the value of c is made of the value of each cell that is c
+-- an edit of the value of c is an edit of the value of each cell equal to c
 pub at_cell : {A : Type 0} (f : Cell → A) (g : A → A) (c x : Cell) → cond (same_cell c x) (g (f c)) (f x) ≡ cond (same_cell c x) (g (f x)) (f x)
 at_cell {A} f g c x = go (same_cell c x) refl
   where
@@ -19,7 +19,7 @@ at_cell {A} f g c x = go (same_cell c x) refl
     go true e = ap (λ (z : Cell). g (f z)) (same_cell-true c x e)
     go false e = refl
 
--- cells that differ still do after c is added
+-- distinct cells stay distinct when c is added
 pub distinct-with_cell : (cells : List Cell) (c : Cell) → IsDistinct same_cell cells → IsDistinct same_cell (with_cell cells c)
 distinct-with_cell cells c d = elim (decided (list_any (same_cell c) cells)) [
   | inl e ↦ subst (IsDistinct same_cell) (sym (with_known cells c e)) d
@@ -38,7 +38,7 @@ list_edited cells lists lists' c p L paired here lt edit x =
 
 -- c is added
 module _ {V : Type 0} (cells : List Cell) (lists : List (List V)) (c : Cell) where
-  -- it begins a list where it has no place
+  -- it gets a new list if it has no place
   pub new_list : place_in cells c ≡ length cells → with_place cells c lists ≡ lists ++ [] ∷ []
   new_list here = ap (λ (b : Bool). if b then lists else lists ++ [] ∷ []) (place_absent cells c here)
 
@@ -49,7 +49,7 @@ module _ {V : Type 0} (cells : List Cell) (lists : List (List V)) (c : Cell) whe
   ]
 
   module _ (paired : length lists ≡ length cells) (cells' : List Cell) (lists1 : List (List V)) (e : cells' ≡ with_cell cells c) (f : lists1 ≡ with_place cells c lists) where
-    -- the list of each cell stays
+    -- the list of each cell is unchanged
     pub placed : (x : Cell) → list_for cells' lists1 x ≡ list_for cells lists x
     placed x = (λ j. get_or (f j) (place_in (e j) x) []) ∙ grown cells lists c paired x
 

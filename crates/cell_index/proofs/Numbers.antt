@@ -20,7 +20,7 @@ use Rattle.cell_index.proofs.Places.{decided, place_none, place_some, put_distin
 abbrev number_at : List Cell → Cell → Bool → ℕ
 number_at cells x b = if b then place_in cells x + 1 else 0
 
--- a cell with no number has no place
+-- a cell without a number has no place
 pub number_none : (cells : List Cell) (x : Cell) → number_in cells x ≡ 0 → place_in cells x ≡ length cells
 number_none cells x h = elim (decided (list_any (same_cell x) cells)) [
   | inl e ↦ absurd (let z = sym (ap (number_at cells x) e) ∙ h in omega (arith, z))
@@ -58,11 +58,11 @@ module _ (cells : List Cell) (c : Cell) where
         | inr s ↦ s
       ]
 
--- where nobody has the slot, the map has no number either
+-- if the slot of x has no owner, the map has no number for x either
 pub far_vacant : {S : Type 0} (b : Blocks) (far : IndexMap Cell ℕ S) (cells : Vec Cell Global) (n : ℕ) → IsIndex b far cells n → (x : Cell) → owner_of b x ≡ None → far_number far x ≡ 0
 far_vacant b far cells n h x e = sym (ap (λ o. option_map_or (λ i. get_or b.numbers.items i 0) (entry_by o x) (far_number far x)) e) ∙ h.found x ∙ h.vacant x e
 
--- a number is put in the map for a cell whose block has no page
+-- the map gets a number for a cell whose block has no page
 pub number_far : {S : Type 0} (b : Blocks) (far far' : IndexMap Cell ℕ S) (c : Cell) (o : Owner) (n : ℕ) → owner_of b c ≡ Some o → has_cell o c ≡ false
     → ((x : Cell) → far_number far' x ≡ (if same_cell c x then n else far_number far x)) → (x : Cell)
     → number_or b x (far_number far' x) ≡ (if same_cell c x then n else number_or b x (far_number far x))
@@ -75,7 +75,7 @@ number_far b far far' c o n owner other put x = go (same_cell c x) refl
         ap (λ e. option_map_or (λ i. get_or b.numbers.items i 0) e (far_number far' x)) entry ∙ put x ∙ ap (λ (h : Bool). if h then n else far_number far x) s
     go false s = ap (number_or b x) (put x ∙ ap (λ (h : Bool). if h then n else far_number far x) s)
 
--- c is added: its block or the map has the next number for it, and each other cell keeps its number
+-- c is added: its block or the map has the next number for it, and every other cell keeps its number
 module _ {S : Type 0} (b b' : Blocks) (far far' : IndexMap Cell ℕ S) (cells cells' : Vec Cell Global) (n : ℕ) (c : Cell) (h : IsIndex b far cells n) (some : 0 < n)
     (absent : place_in cells.items c ≡ length cells.items) where
   pub index_push : IsPaged b' → owner_of b' c ≢ None → ((x : Cell) → owner_of b' x ≡ None → owner_of b x ≡ None) → length b'.owners.items ≡ length b.owners.items

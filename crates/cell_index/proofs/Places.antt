@@ -1,4 +1,4 @@
--- The places of cells: which cell has one, and what adding a cell makes of them.
+-- The places of cells: which cells have one, and how they change when a cell is added.
 use Rattle.std.proofs.Common.{◌≡◌, ◌⊎◌, ℕ, zero, suc, ◌+◌, ◌<◌, ◌≤◌, ◌||◌, max, Bool, true, false, cond, not, eqb, List, [], ◌∷◌, ◌++◌, length, get_or, refl, sym, ◌∙◌, ap, inl, inr, arith, if◌then◌else◌, length-append}
 use Rattle.std.specs.List.{list_any, IsDistinct, AllByRecursion}
 use Rattle.std.proofs.lemmas.Bool.Decides.{eqb_tells, nat_tests}
@@ -13,7 +13,7 @@ pub decided : (b : Bool) → (b ≡ true) ⊎ (b ≡ false)
 decided true = inl refl
 decided false = inr refl
 
--- where there is no such cell, the place is the length
+-- the place of a cell that is not in the list is the length
 pub place_none : (cells : List Cell) (x : Cell) → list_any (same_cell x) cells ≡ false → place_in cells x ≡ length cells
 place_none [] x h = refl
 place_none (c ∷ cells) x h = elim (decided (same_cell x c)) [
@@ -31,7 +31,7 @@ place_some (c ∷ cells) x h = elim (decided (same_cell x c)) [
       omega (arith, r, z)
 ]
 
--- a cell whose place is the length is not there
+-- a cell whose place is the length is not in the list
 pub place_absent : (cells : List Cell) (x : Cell) → place_in cells x ≡ length cells → list_any (same_cell x) cells ≡ false
 place_absent cells x h = elim (decided (list_any (same_cell x) cells)) [
   | inl e ↦ let lt = place_some cells x e in absurd (omega (arith, lt, h))
@@ -44,7 +44,7 @@ both_up m n = grind (arith, nat_tests)
 one_up : (m : ℕ) → (eqb (1 + m) 0 ≡ false) × (eqb 0 (1 + m) ≡ false)
 one_up m = (grind (arith, nat_tests), grind (arith, nat_tests))
 
--- the places of two cells are one where the cells are
+-- two cells have the same place if and only if they are the same
 pub same_place : (cells : List Cell) (x y : Cell) → place_in cells x < length cells → eqb (place_in cells y) (place_in cells x) ≡ same_cell x y
 same_place [] x y lt = absurd (omega arith)
 same_place (c ∷ cells) x y lt = go (same_cell x c) (same_cell y c) refl refl (same_place cells x y)
@@ -62,7 +62,7 @@ same_place (c ∷ cells) x y lt = go (same_cell x c) (same_cell y c) refl refl (
         let z = ap (λ (b : Bool). up b (place_in cells x)) e in
         (λ j. eqb (up (f j) (place_in cells y)) (up (e j) (place_in cells x))) ∙ both_up (place_in cells y) (place_in cells x) ∙ ih (omega (arith, lt, z))
 
--- the place of the cell of a place
+-- the cell at place p has the place p
 pub place_back : (cells : List Cell) (p : ℕ) (d : Cell) → IsDistinct same_cell cells → p < length cells → place_in cells (get_or cells p d) ≡ p
 place_back [] p d distinct lt = absurd (omega arith)
 place_back (c ∷ cells) zero d distinct lt = ap (λ (b : Bool). cond (not b) (1 + place_in cells c) 0) (same_itself c)
@@ -77,7 +77,7 @@ place_back (c ∷ cells) (suc p) d distinct lt =
     at_all P (x ∷ xs) zero h k = h.0
     at_all P (x ∷ xs) (suc i) h k = at_all P xs i h.1 (omega arith)
 
--- a place tells whether its cell is x
+-- x has the place p if and only if it is the cell at p
 pub place_tells : (cells : List Cell) (p : ℕ) (d x : Cell) → IsDistinct same_cell cells → p < length cells → eqb (place_in cells x) p ≡ same_cell (get_or cells p d) x
 place_tells cells p d x distinct lt =
     let back = place_back cells p d distinct lt in
@@ -91,7 +91,7 @@ module _ (cells : List Cell) (c : Cell) where
   pub with_new : list_any (same_cell c) cells ≡ false → with_cell cells c ≡ cells ++ c ∷ []
   with_new e = ap (λ (b : Bool). if b then cells else cells ++ c ∷ []) e
 
-  -- no cell is added where c has a place
+  -- no cell is added if c has a place
   pub put_known : (place_in cells c ≡ length cells → ⊥) → cells ≡ with_cell cells c
   put_known h = elim (decided (list_any (same_cell c) cells)) [
     | inl e ↦ sym (with_known e)
@@ -112,7 +112,7 @@ module _ (cells : List Cell) (c : Cell) where
     | inr e ↦ let end = place_none cells c e in let n = length-append cells (c ∷ []) in ap length (with_new e) ∙ omega (arith, end, n)
   ]
 
-  -- the place of another cell stays, or is behind all cells before and after
+  -- the place of each cell is unchanged, or is past the old cells both before and after
   pub put_other : (x : Cell) → (place_in (with_cell cells c) x ≡ place_in cells x) ⊎ ((length cells ≤ place_in (with_cell cells c) x) × (length cells ≤ place_in cells x))
   put_other x = elim (decided (list_any (same_cell c) cells)) [
     | inl e ↦ inl (ap (λ (l : List Cell). place_in l x) (with_known e))

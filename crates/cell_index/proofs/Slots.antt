@@ -1,4 +1,4 @@
--- Slots that are made have no owner, so each cell keeps its entry.
+-- New slots have no owner, so each cell keeps its entry.
 use Rattle.std.proofs.Common.{◌≡◌, ℕ, zero, suc, ◌+◌, ◌-◌, ◌*◌, ◌<◌, ◌≤◌, List, [], ◌∷◌, ◌++◌, length, get_or, take, replicate, sym, refl, ◌∙◌, ap, subst, inl, inr, arith, Option, None, if◌then◌else◌, length-append}
 use Rattle.std.specs.Prelude.{is_none, count_by, IfSome, vec_capacity}
 use Rattle.std.proofs.lemmas.Bool.{cases_lt}
@@ -17,7 +17,7 @@ none_behind [] k i = elim (cases_lt i k) [
 none_behind (o ∷ os) k zero = refl
 none_behind (o ∷ os) k (suc i) = none_behind os k i
 
--- slots are made behind those that there are
+-- new slots are added after the existing ones
 pub owner_made : (os made : List (Option Owner)) (n k i : ℕ) → length os ≤ n → made ≡ take n os ++ replicate k None → get_or made i None ≡ get_or os i None
 owner_made os made n k i le e = ap (λ (l : List (Option Owner)). get_or l i None) (e ∙ ap (λ (l : List (Option Owner)). l ++ replicate k None) (take_all n os le)) ∙ none_behind os k i
 

@@ -1,4 +1,4 @@
--- Chains beside cells: a cell's chain stands at the cell's place.
+-- Chains stored beside cells: a cell's chain is at the cell's place.
 use Rattle.std.proofs.Common.{true, false, Bool, cond, not, ◌≡◌, ◌⊎◌, ℕ, zero, suc, ◌+◌, ◌<◌, ◌≤◌, List, [], ◌∷◌, ◌++◌, length, get_or, set, refl, sym, ◌∙◌, ap, subst, inl, inr, arith, length-append, if◌then◌else◌, ◌||◌, ◌==◌, Option, Some, None, unwrap_or}
 use Rattle.std.proofs.lemmas.Bool.{eq-eqb, ne_eqb}
 use Rattle.std.proofs.lemmas.List.{get_or_read_under}
@@ -33,7 +33,7 @@ same_cell-sym x y = at (same_cell x y) refl
     at true e = sym (subst (λ (z : Cell). same_cell z x ≡ true) (same_cell-exact x y e) (same_cell-itself x))
     at false e = sym (same_cell-other x y e)
 
--- where another chain is written at a cell's place
+-- the lookups after another chain is written at a cell's place
 pub replaced : (x : Cell) (h : Chain) (cells : List Cell) (chains : List Chain) → length chains ≡ length cells → place_in cells x < length cells
     → (y : Cell) → chain_at (zip cells (set chains (place_in cells x) h)) y ≡ (if same_cell x y then h else chain_at (zip cells chains) y)
 replaced x h [] chains n lt y = absurd (omega (arith, lt))
@@ -60,7 +60,7 @@ replaced x h (c ∷ cells) (g ∷ chains) n lt y = at (same_cell x c) refl lt (�
         ap (λ k. chain_at (zip (c ∷ cells) (set (g ∷ chains) k h)) y) (sym (add-one (place_in cells x)))
         ∙ behind (same_cell y c) e refl (lookup (same_cell y) (zip cells (set chains (place_in cells x) h))) (lookup (same_cell y) (zip cells chains)) (rest (omega (arith, lt)))
 
--- a cell has a place, or the next one is its
+-- a cell has a place, or its place is the next one
 pub place_cases : (x : Cell) (cells : List Cell) → (list_any (same_cell x) cells ≡ true) × (place_in cells x < length cells) ⊎ (list_any (same_cell x) cells ≡ false)
     × (place_in cells x ≡ length cells)
 place_cases x [] = inr (refl, refl)
@@ -73,7 +73,7 @@ place_cases x (c ∷ cells) = at (same_cell x c) (place_cases x cells)
     at false (inl some) = inl (some.0, omega (arith, some.1))
     at false (inr none) = inr (none.0, omega (arith, none.1))
 
--- behind the others, a cell with an empty chain
+-- a cell with an empty chain is appended
 place_pushed : (x : Cell) (cells : List Cell) → place_in (cells ++ x ∷ []) x ≡ place_in cells x
 place_pushed x [] = ap (λ (b : Bool). cond (not b) 1 0) (same_cell-itself x)
 place_pushed x (c ∷ cells) = ap (λ n. cond (not (same_cell x c)) (1 + n) 0) (place_pushed x cells)
@@ -122,11 +122,11 @@ module _ (x : Cell) (cells : List Cell) (chains : List Chain) (n : length chains
   pub next_within : place_in cells x < length chains'
   next_within = let g = grown in omega (arith, g.0, g.2)
 
-  -- the chain that is read at the cell's place
+  -- the element at the cell's place is its chain
   pub read : get_or chains' (place_in cells x) no_chain ≡ chain_at (zip cells chains) x
   read = let g = grown in ap (λ k. get_or chains' k no_chain) (sym g.1) ∙ (sym (chain_read x cells' chains' g.0) ∙ g.3 x)
 
-  -- where another chain is written there
+  -- the lookups after another chain is written there
   pub written : (h : Chain) (y : Cell) → chain_at (zip cells' (set chains' (place_in cells x) h)) y ≡ (if same_cell x y then h else chain_at (zip cells chains) y)
   written h y =
       let g = grown in
@@ -134,7 +134,7 @@ module _ (x : Cell) (cells : List Cell) (chains : List Chain) (n : length chains
       ∙ (replaced x h cells' chains' g.0 (subst (λ k. k < length cells') (sym g.1) g.2) y
       ∙ ap (λ (was : Chain). if same_cell x y then h else was) (g.3 y))
 
-  -- the same where the entries, the place, the cells and the chains were read
+  -- the same if the entries, the place, the cells and the chains were read
   module _ (entries : List (Cell × Chain)) (seen : zip cells chains ≡ entries) (at : ℕ) (at_is : at ≡ place_in cells x) (hs : List Chain) (hs_are : hs ≡ with_next chains at) where
     chains_are : hs ≡ chains'
     chains_are = hs_are ∙ ap (with_next chains) at_is
@@ -168,7 +168,7 @@ busy_within x cells chains n some = elim (place_cases x cells) [
     none_at (h ∷ hs) zero le = absurd (omega (arith, le))
     none_at (h ∷ hs) (suc i) le = none_at hs i (omega (arith, le))
 
--- what stands at a cell's place, where the entries and the place were read
+-- the chain at a cell's place, if the entries and the place were read
 module _ (x : Cell) (cells : List Cell) (chains : List Chain) (n : length chains ≡ length cells) (entries : List (Cell × Chain)) (seen : zip cells chains ≡ entries) (at : ℕ)
     (at_is : at ≡ place_in cells x) where
   pub chain_here : (h : Chain) → at < length chains → h ≡ get_or chains at h → h ≡ chain_at entries x
@@ -191,7 +191,7 @@ module _ (x : Cell) (cells : List Cell) (chains : List Chain) (n : length chains
       ap (λ k. chain_at (zip cells (set chains k h)) y) at_is
       ∙ (replaced x h cells chains n (omega (arith, lt, n, at_is)) y ∙ ap (λ (es : List (Cell × Chain)). if same_cell x y then h else chain_at es y) seen)
 
--- a field of a chain that is one of two
+-- a field of a chain that is chosen from two
 pub field_chosen : {X : Type 0} (f : Chain → X) (b : Bool) (c g h : Chain) → c ≡ (if b then g else h) → f c ≡ (if b then f g else f h)
 field_chosen f true c g h is = ap f is
 field_chosen f false c g h is = ap f is

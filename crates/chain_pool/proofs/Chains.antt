@@ -1,4 +1,4 @@
--- What the versions of a chain say of its places, and the other way round.
+-- The versions of a chain and its places determine each other.
 use Rattle.std.proofs.Common.{true, false, Bool, eqb, not, ◌≡◌, ◌≢◌, ℕ, zero, suc, ◌<◌, ◌≤◌, List, [], ◌∷◌, length, get_or, map, filter, refl, sym, ◌∙◌, ap, subst, arith, Option, Some, None, IfSome, MatchOption, eqb-true, ne_eqb, slice_get, IsTrue}
 use Rattle.std.proofs.lemmas.Bool.{false_from_ne_true, le-leb}
 use Rattle.std.proofs.lemmas.List.{get_or-map, length-map}
@@ -25,7 +25,7 @@ filter-all : (f : Version → Bool) (vs : List Version) (d : Version) → ((j : 
 filter-all f [] d h = refl
 filter-all f (v ∷ vs) d h = let t : f v ≡ true = h 0 (omega arith) in rw t (ap (λ l. v ∷ l) (filter-all f vs d (λ j lt. h (suc j) (omega arith))))
 
--- where one place at the most passes, the last that does is the first
+-- if at most one element passes, the last that passes is the first
 last_is_first : (p : ℕ → Bool) (ws : List ℕ) → ((i j : ℕ) → i < length ws → j < length ws → p (get_or ws i 0) ≡ true → p (get_or ws j 0) ≡ true → i ≡ j) → (o : Option ℕ) → IsLast p ws o
     → unless_below 0 o ≡ first_place p ws
 last_is_first p ws one None h = first_place_is p ws None h
@@ -40,7 +40,7 @@ module _ (ps : List Place) (chain : Cell → Head) (own : Txn → Head) (unused 
   pub versions_len : (x : Cell) → length (versions ps (chain x)) ≡ (chain x).len
   versions_len x = ap length (is_map x) ∙ (length-map _ (pair_at ps) ∙ (S.chains x).thread.count)
 
-  -- the version at a place, by the places of the ring and by the way from its end
+  -- the version at a place, found by the ring's places and by the walk from its end
   pub versions_get : (x : Cell) (j : ℕ) (d : Version) → j < (chain x).len → get_or (versions ps (chain x)) j d ≡ pair_at ps (get_or (S.chains x).thread.places j 0)
   versions_get x j d lt = ap (λ l. get_or l j d) (is_map x) ∙ get_or-map (pair_at ps) _ j 0 d (omega (arith, (S.chains x).thread.count, lt))
 
@@ -50,7 +50,7 @@ module _ (ps : List Place) (chain : Cell → Head) (own : Txn → Head) (unused 
   pub slice_get-versions : (x : Cell) (i : ℕ) → i < length (versions ps (chain x)) → slice_get (versions ps (chain x)) i ≡ Some (pair_at ps (nth_place ps (chain x) i))
   slice_get-versions x i lt = get_some _ i (pair_at ps 0) lt ∙ ap Some (versions_nth x i (pair_at ps 0) (omega (arith, versions_len x, lt)))
 
-  -- what a walk found at a place is the version there
+  -- the version that a walk found at a place is the chain's version there
   pub found_version : (x : Cell) (h : Head) → h ≡ chain x → (r : Option Found) → IfSome r (λ v. v.at < h.len) → IfSome r (λ v. pair_at ps (nth_place ps h v.at) ≡ (v.writer, v.value))
       → IfSome r (λ v. slice_get (versions ps h) v.at ≡ Some (v.writer, v.value))
   found_version x h is None low pair = pair
@@ -71,7 +71,7 @@ module _ (ps : List Place) (chain : Cell → Head) (own : Txn → Head) (unused 
           let at = (S.owners t).complete _ (owner_pair ps x t _ m (let made : ℕ → Txn = λ k. record { 0 = k } in ap made e)) in omega (arith, at.1.0, none) in
           ap (λ (v : Version). not (eqb v.0.0 t.0)) (versions_get x j (pair_at ps 0) in_len) ∙ ap not (ne_eqb _ _ apart)
 
-  -- one that is none of the writers owns no place of the chain
+  -- a transaction that is not a writer owns no place of the chain
   pub absent_from : (x : Cell) (t : Txn) → is_writer (versions ps (chain x)) t.0 ≡ false → (p : ℕ) → InChain ps x p → IsOwned ps t p → ⊥
   absent_from x t off p m o =
       let at = (S.chains x).thread.complete p m in
@@ -82,7 +82,7 @@ module _ (ps : List Place) (chain : Cell → Head) (own : Txn → Head) (unused 
       let z : true ≡ false = sym there ∙ (ap (is_writer (versions ps (chain x))) is ∙ off) in
       cc
 
-  -- a chain has one version of a writer at the most
+  -- a chain has at most one version of each writer
   pub one_each : (x : Cell) (t : ℕ) (i j : ℕ) → i < length (writers_of (versions ps (chain x))) → j < length (writers_of (versions ps (chain x)))
       → eqb (get_or (writers_of (versions ps (chain x))) i 0) t ≡ true → eqb (get_or (writers_of (versions ps (chain x))) j 0) t ≡ true → i ≡ j
   one_each x t i j li lj ei ej =
@@ -101,7 +101,7 @@ module _ (ps : List Place) (chain : Cell → Head) (own : Txn → Head) (unused 
   pub find_last : (x : Cell) (t : ℕ) → unless_below 0 (last_place (λ w. eqb w t) (writers_of (versions ps (chain x)))) ≡ first_place (λ w. eqb w t) (writers_of (versions ps (chain x)))
   find_last x t = last_is_first (λ w. eqb w t) (writers_of (versions ps (chain x))) (one_each x t) _ (last_place-found (λ w. eqb w t) (writers_of (versions ps (chain x))))
 
-  -- where a writer's list has no version of the cell, the chain has none of the writer
+  -- if a writer's list has no version of the cell, the chain has no version of the writer
   pub find_none : (x : Cell) (t : Txn) → ((n : ℕ) → n < (own t).len → cell_in (slot_at ps (steps (sibling_at ps) n (own t).first)) ≡ Some x → ⊥)
       → None ≡ first_place (λ w. eqb w t.0) (writers_of (versions ps (chain x)))
   find_none x t none = first_of_writer (versions ps (chain x)) t None (λ j d lt is.
@@ -111,7 +111,7 @@ module _ (ps : List Place) (chain : Cell → Head) (own : Txn → Head) (unused 
       let at = (S.owners t).complete _ o in
       none at.0 at.1.0 (ap (λ p. cell_in (slot_at ps p)) (thread-steps _ _ _ _ (S.owners t) at.0 at.1.0 ∙ at.1.1) ∙ m.is_mine))
 
-  -- a search from the chain's end
+  -- a search from the end of the chain
   pub last_found : (x : Cell) (h : Head) → h ≡ chain x → (p : ℕ → Bool) (Answers : Txn → Bool → Type 0)
       → ((u : Txn) (b : Bool) → IsTrue (is_writer (versions ps (chain x)) u.0) → Answers u b → b ≡ p u.0)
       → (from : ℕ) (r : Option ℕ)
@@ -144,7 +144,7 @@ module _ (ps : List Place) (chain : Cell → Head) (own : Txn → Head) (unused 
             said false j d low (found.3 j above low),
       )
 
-  -- each writer that a walk comes to is one of the chain's
+  -- each writer that a walk visits is a writer of the chain
   pub is_writer-nth : (x : Cell) (h : Head) → h ≡ chain x → (j : ℕ) → j < h.len → is_writer (versions ps (chain x)) (pair_at ps (nth_place ps h j)).0.0 ≡ true
   is_writer-nth x h is j lt =
       let low : j < (chain x).len = subst (λ (g : Head). j < g.len) is lt in

@@ -1,4 +1,4 @@
--- A writer who has no entry any more: the links are sound with the list that was taken out, and without it once it is empty.
+-- A writer without an entry: the links are sound with the list that was taken out, and without it once it is empty.
 use Rattle.std.proofs.Common.{true, false, Bool, cond, ◌≡◌, ◌<◌, List, refl, sym, ◌∙◌, ap, subst, inl, inr, if◌then◌else◌, Option, Some, None, unwrap_or, IfSome}
 use Rattle.std.specs.Map.{lookup}
 use Rattle.teb_names.specs.declared.Cell.{Cell}
@@ -14,7 +14,7 @@ use Rattle.chain_pool.proofs.Lookups.{with_head-here}
 use Rattle.chain_pool.proofs.Threads.{thread-none}
 
 module _ (ps : List Place) (chain : Cell → Head) (unused : Head) (t : Txn) where
-  -- the heads are as they were, if t has the one that was taken out
+  -- the heads are unchanged if t is given the head that was taken out
   pub taken_out : (was now : List (Txn × Head)) (h : Head) → Linked ps chain (writer_head was) unused → lookup (same_txn t) was ≡ Some h
       → ((u : Txn) → lookup (same_txn u) now ≡ cond (same_txn t u) None (lookup (same_txn u) was)) → Linked ps chain (with_head t h (writer_head now)) unused
   taken_out was now h S had gone = subst (λ (own : Txn → Head). Linked ps chain own unused) (λ i u. same u i) S
@@ -44,7 +44,7 @@ module _ (ps : List Place) (chain : Cell → Head) (unused : Head) (t : Txn) whe
         | inr off ↦ subst (λ (g : Head). Thread (IsOwned ps u) (sibling_at ps) g.first g.len) (ap (λ (b : Bool). if b then h else own u) off) (S.owners u)
       ]
 
--- nobody has the head that was taken out
+-- t has no entry after its head was taken out
 pub no_entry : (was now : List (Txn × Head)) (t : Txn) → ((u : Txn) → lookup (same_txn u) now ≡ cond (same_txn t u) None (lookup (same_txn u) was)) → writer_head now t ≡ empty
 no_entry was now t gone = ap (λ (o : Option Head). unwrap_or o empty) (gone t ∙ ap (λ (b : Bool). cond b None (lookup (same_txn t) was)) (same_txn-itself t))
 

@@ -1,4 +1,4 @@
--- The first place of a writer's list that is freed: the links are sound again, and of each chain that writer's version alone is gone.
+-- Freeing the first place of a writer's list keeps the links sound and removes only that writer's version from its chain.
 use Rattle.std.proofs.Common.{true, false, Bool, eqb, cond, not, ◌≡◌, ◌==◌, ℕ, zero, suc, ◌+◌, ◌-◌, ◌<◌, ◌≢◌, List, [], ◌∷◌, length, get_or, map, filter, refl, sym, ◌∙◌, ap, subst, inl, inr, arith, if◌then◌else◌, None, Some, eq-eqb}
 use Rattle.std.specs.List.{remove}
 use Rattle.std.proofs.lemmas.Bool.{cases_eq}
@@ -19,7 +19,7 @@ use Rattle.chain_pool.proofs.Threads.{high, low, thread-insert, thread-remove, t
 use Rattle.chain_pool.proofs.Rings.{step_back, ring-remove, ring-keep, places-ring-remove, places-ring-keep, mine_next, mine_previous}
 use Rattle.chain_pool.proofs.Slots.{chosen, passed, map-remove, map-agree, RingWith, ring-versions, ring-end, same-end, one_chain, one_owner, free_chain, free_owned, pair_owner, slot_here, slot_else, pair_else, chain_kept, chain_was, owned_kept, owned_was, free_kept, free_was}
 
--- what there is then
+-- the state after the place is freed
 pub record IsFreed (ps ps' : List Place) (chain chain' : Cell → Head) (own own' : Txn → Head) (unused' : Head) (t : Txn) (cell : Cell) (p a : ℕ) : Type 0 where
   pub linked : Linked ps' chain' own' unused'
   pub fewer : (own' t).len + 1 ≡ (own t).len
@@ -31,7 +31,7 @@ filter-remove f [] i d lt off = absurd (omega (arith, lt))
 filter-remove f (v ∷ vs) zero d lt off = rw off
 filter-remove f (v ∷ vs) (suc i) d lt off = ap (λ l. cond (f v) (v ∷ l) l) (filter-remove f vs i d (omega (arith, lt)) off)
 
--- the place p, the first of t's, stands between a and b in the chain of its cell
+-- the place p, the first of t's list, is between a and b in the chain of its cell
 module _ (ps ps' : List Place) (chain chain' : Cell → Head) (own own' : Txn → Head) (unused : Head) (S : Linked ps chain own unused)
     (cell : Cell) (t : Txn) (p a b : ℕ)
     (p_is : p ≡ (own t).first) (some : 0 < (own t).len) (cell_is : cell_in (slot_at ps p) ≡ Some cell)
@@ -206,7 +206,7 @@ module _ (ps ps' : List Place) (chain chain' : Cell → Head) (own own' : Txn �
             ∙ (filter-remove (λ v. not (eqb v.0.0 t.0)) (map (pair_at ps) L) p_place.0 (pair_at ps 0) (omega (arith, in_L, n)) gone ∙ ap (without t.0) (sym old)))
 
     module _ (last last' : Cell → ℕ) (ends : HasLasts ps chain last) (lasts_are : (y : Cell) → last' y ≡ (if same_cell cell y then last_without (last cell) p a else last y)) where
-      -- the last place of the chain that has one less
+      -- the last place of the shortened chain
       shorter_end : 0 < (chain cell).len - 1 → last_without (last cell) p a ≡ previous_at ps' (without_place (chain cell) p b).first
       shorter_end more =
           let L = (S.chains cell).thread.places in
@@ -241,7 +241,7 @@ module _ (ps ps' : List Place) (chain chain' : Cell → Head) (own own' : Txn �
     is_freed : IsFreed ps ps' chain chain' own own' more_free t cell p a
     is_freed = record { linked = freed; fewer = omega (arith, ap (λ (h : Head). h.len) own_here, some); kept = without_kept; lasts = lasts_kept }
 
--- the same where the writer's head was read before
+-- the same if the writer's head was read before
 pub freeing : (ps ps' : List Place) (chain chain' : Cell → Head) (own own' : Txn → Head) (unused : Head) (S : Linked ps chain own unused) (cell : Cell) (t : Txn) (h : Head)
     → h ≡ own t → 0 < (own t).len → cell_in (slot_at ps h.first) ≡ Some cell → length ps' ≡ length ps
     → ((r : ℕ) → next_at ps' r ≡ (if r == previous_at ps h.first then next_at ps h.first else next_at ps r))

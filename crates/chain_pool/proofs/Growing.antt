@@ -1,4 +1,4 @@
--- One more place, which is free where no other is: the links stay sound, and the chains are as they were.
+-- One more place, which is free, when no other is free: the links stay sound, and the chains are unchanged.
 use Rattle.std.proofs.Common.{◌≡◌, ℕ, zero, suc, ◌+◌, ◌^◌, ◌<◌, ◌≢◌, ◌⊎◌, List, [], ◌∷◌, ◌++◌, length, get_or, refl, sym, ◌∙◌, ap, subst, inl, inr, arith, length-append}
 use Rattle.std.proofs.lemmas.Bool.{cases_eq, cases_lt}
 use Rattle.teb_names.specs.declared.Cell.{Cell}
@@ -12,7 +12,7 @@ use Rattle.chain_pool.proofs.Threads.{thread-insert, thread-keep}
 use Rattle.chain_pool.proofs.Rings.{ring-keep, places-ring-keep}
 use Rattle.chain_pool.proofs.Slots.{RingWith, ring-versions, same-end, map-agree, free_chain, free_owned}
 
--- what stands at a place of a longer list
+-- the element at a place of the longer list
 pushed_low : (ps : List Place) (b d : Place) (r : ℕ) → r < length ps → get_or (ps ++ b ∷ []) r d ≡ get_or ps r d
 pushed_low [] b d r lt = absurd (omega (arith, lt))
 pushed_low (p ∷ ps) b d zero lt = refl

@@ -1,4 +1,4 @@
--- Cells and transactions as keys: a key is another or not.
+-- Cells and transactions as keys: two keys are equal or different.
 use Rattle.std.proofs.Common.{true, false, Bool, ◌≡◌, ◌≢◌, ◌⊎◌, ℕ, refl, sym, ◌∙◌, ap, inl, inr, eq-eqb, eqb-true}
 use Rattle.teb_names.specs.declared.Txn.{Txn}
 use Rattle.chain_pool.specs.Heads.{same_txn}

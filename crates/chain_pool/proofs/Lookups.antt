@@ -1,4 +1,4 @@
--- The head of a key's list, as entries change.
+-- Lookups of a key's head as entries change.
 use Rattle.std.proofs.Common.{true, false, Bool, cond, ◌≡◌, ◌<◌, List, [], ◌∷◌, map, refl, sym, ap, subst, if◌then◌else◌, Option, Some, unwrap_or, IfSome}
 use Rattle.std.specs.Map.{lookup}
 use Rattle.teb_names.specs.declared.Txn.{Txn}
@@ -6,7 +6,7 @@ use Rattle.chain_pool.specs.declared.places.Head.{Head}
 use Rattle.chain_pool.specs.Heads.{IsBusy, same_txn, with_head}
 use Rattle.chain_pool.proofs.Keys.{same_txn-itself}
 
--- what is looked up where each value is changed by a function
+-- a lookup after a function is applied to each value
 pub lookup_map : {K V W : Type 0} (f : V → W) (test : K → Bool) (entries : List (K × V)) (d : V) → unwrap_or (lookup test (map (λ e. (e.0, f e.1)) entries)) (f d) ≡ f
     (unwrap_or (lookup test entries) d)
 lookup_map f test [] d = refl
@@ -27,7 +27,7 @@ with_head-twice t h g own u = at (same_txn t u)
 pub with_head-here : (t : Txn) (h : Head) (own : Txn → Head) → with_head t h own t ≡ h
 with_head-here t h own = ap (λ (b : Bool). if b then h else own t) (same_txn-itself t)
 
--- where t has a list that is not empty
+-- every entry is nonempty after t is given a nonempty list
 pub busy_with : (was now : List (Txn × Head)) (t : Txn) (h : Head) → ((u : Txn) → lookup (same_txn u) now ≡ cond (same_txn t u) (Some h) (lookup (same_txn u) was)) → 0 < h.len → IsBusy was
     → IsBusy now
 busy_with was now t h put some busy u = subst (λ (o : Option Head). IfSome o (λ g. 0 < g.len)) (sym (put u)) (at (same_txn t u) (lookup (same_txn u) was) (busy u))

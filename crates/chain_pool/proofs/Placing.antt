@@ -1,4 +1,4 @@
--- A version that is put into the first free place: the links are sound again, and its chain has it at its place.
+-- Putting a version into the first free place keeps the links sound and inserts it in its chain at its index.
 use Rattle.std.proofs.Common.{true, Bool, ◌≡◌, ◌==◌, ℕ, ◌+◌, ◌-◌, ◌<◌, ◌≤◌, ◌≢◌, ◌⊎◌, List, length, get_or, map, refl, sym, ◌∙◌, ap, subst, inl, inr, arith, if◌then◌else◌, Some}
 use Rattle.std.specs.List.{insert}
 use Rattle.std.proofs.lemmas.Bool.{cases_eq, cases_lt}
@@ -18,7 +18,7 @@ use Rattle.chain_pool.proofs.Threads.{here, above, thread-insert, thread-remove,
 use Rattle.chain_pool.proofs.Rings.{ring-insert, ring-keep, ring-one, places-ring-insert, places-ring-one, places-ring-keep, mine_first, mine_previous, steps-at, steps-end}
 use Rattle.chain_pool.proofs.Slots.{chosen, passed, map-insert, map-agree, RingWith, ring-versions, ring-end, same-end, one_chain, one_owner, free_chain, free_owned, slot_here, slot_else, pair_else, chain_kept, chain_was, owned_kept, owned_was, free_kept, free_was}
 
--- what there is then
+-- the state after the version is placed
 pub record IsPlaced (ps ps' : List Place) (chain chain' : Cell → Head) (own' : Txn → Head) (unused' : Head) (v : Stored) (i q : ℕ) : Type 0 where
   pub linked : Linked ps' chain' own' unused'
   pub here : versions ps' (chain' v.cell) ≡ insert (versions ps (chain v.cell)) i (v.writer, v.value)
@@ -26,7 +26,7 @@ pub record IsPlaced (ps ps' : List Place) (chain chain' : Cell → Head) (own' :
   pub lasts : (last last' : Cell → ℕ) → HasLasts ps chain last → ((y : Cell) → last' y ≡ (if same_cell v.cell y then (if i == (chain v.cell).len then q else last v.cell) else last y))
       → HasLasts ps' chain' last'
 
--- the version v goes into the free place q, between a and b, as the i-th of its chain
+-- the version v goes into the free place q, between a and b, as element i of its chain
 module _ (ps ps' : List Place) (chain chain' : Cell → Head) (own own' : Txn → Head) (unused : Head) (S : Linked ps chain own unused)
     (v : Stored) (i q a b : ℕ)
     (q_is : q ≡ unused.first) (some_free : 0 < unused.len) (within : i ≤ (chain v.cell).len)
@@ -252,7 +252,7 @@ module _ (ps ps' : List Place) (chain chain' : Cell → Head) (own own' : Txn �
 
     module _ (last last' : Cell → ℕ) (ends : HasLasts ps chain last) (lasts_are : (y : Cell) → last' y ≡ (if same_cell v.cell y then (if i == (chain v.cell).len then q else last v.cell) else last y))
       where
-        -- the last place of the chain that has one more
+        -- the last place of the lengthened chain
         longer_end : (if i == (chain v.cell).len then q else last v.cell) ≡ previous_at ps' longer_chain.first
         longer_end =
             let L = (S.chains v.cell).thread.places in
@@ -283,7 +283,7 @@ module _ (ps ps' : List Place) (chain chain' : Cell → Head) (own own' : Txn �
     is_placed : IsPlaced ps ps' chain chain' own' fewer_free v i q
     is_placed = record { linked = placed; here = versions_here; elsewhere = versions_else; lasts = lasts_kept }
 
--- the same where the two heads were read before: h is the chain's, g the writer's
+-- the same if the two heads were read before: h is the chain's, g the writer's
 pub placing : (ps ps' : List Place) (chain chain' : Cell → Head) (own own' : Txn → Head) (unused : Head) (S : Linked ps chain own unused) (v : Stored) (i : ℕ) (two : ℕ × ℕ) (h g : Head)
     → h ≡ chain v.cell → g ≡ own v.writer → 0 < unused.len → i ≤ (chain v.cell).len → ((p : ℕ) → InChain ps v.cell p → IsOwned ps v.writer p → ⊥)
     → (h.len ≡ 0 → (two.0 ≡ unused.first) × (two.1 ≡ unused.first))

@@ -1,4 +1,4 @@
--- A version whose value alone is written: the links stay sound, and its chain shows the value.
+-- Overwriting the value of a version: the links stay sound, and its chain has the new value.
 use Rattle.std.proofs.Common.{◌≡◌, ◌==◌, ℕ, zero, suc, ◌<◌, ◌≢◌, List, [], ◌∷◌, ◌++◌, length, get_or, take, drop, map, refl, sym, ◌∙◌, ap, subst, inl, inr, arith, if◌then◌else◌, Option, Some, None, ℤ, unwrap_or}
 use Rattle.std.specs.Option.{option_map}
 use Rattle.std.proofs.lemmas.Bool.{cases_eq}
@@ -15,7 +15,7 @@ use Rattle.chain_pool.proofs.Threads.{thread-keep}
 use Rattle.chain_pool.proofs.Rings.{ring-keep, places-ring-keep, steps-at}
 use Rattle.chain_pool.proofs.Slots.{RingWith, ring-versions, map-agree, chosen, passed, one_chain}
 
--- a vector's elements, after a write of them all
+-- the elements of a vector after all of them are overwritten
 pub written : {X : Type 0} (n : ℕ) (new old : List X) → n ≡ length new → take n (new ++ drop (length new) old) ≡ new
 written n new old is = ap (λ k. take k (new ++ drop (length new) old)) is ∙ front new (drop (length new) old)
   where
@@ -31,7 +31,7 @@ set_map f g (x ∷ L) (suc i) v lt here other =
     ap (λ (w : Version). w ∷ map g L) (other 0 (omega arith) (omega arith))
     ∙ ap (λ l. f x ∷ l) (set_map f g L i v (omega (arith, lt)) here (λ j l ne. other (suc j) (omega (arith, l)) (omega (arith, ne))))
 
--- what the value does not change
+-- a change of the value keeps the cell and the writer
 same_cell_in : (o : Option Stored) (v : Option ℤ) → option_map (λ (w : Stored). w.cell) (option_map (λ (w : Stored). record { cell = w.cell; writer = w.writer; value = v }) o) ≡ option_map
     (λ (w : Stored). w.cell) o
 same_cell_in None v = refl

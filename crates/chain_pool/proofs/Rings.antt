@@ -1,4 +1,4 @@
--- What an edit of the links does to a ring.
+-- The effect of an edit of the links on a ring.
 use Rattle.std.proofs.Common.{◌≡◌, ℕ, zero, suc, ◌+◌, ◌-◌, ◌<◌, ◌≤◌, ◌≢◌, ◌⊎◌, length, get_or, refl, sym, ◌∙◌, ap, subst, inl, inr, arith}
 use Rattle.std.specs.List.{insert, remove}
 use Rattle.std.proofs.lemmas.Bool.{cases_lt, cases_eq}
@@ -47,7 +47,7 @@ pub places-ring-keep : (mine mine' : ℕ → Type 0) (next next' previous previo
 unfolding ring-keep thread-keep
 places-ring-keep mine mine' next next' previous previous' first len r kept only same same_back = refl
 
--- a ring of one
+-- an empty ring becomes a ring of one place
 module _ (mine mine' : ℕ → Type 0) (next next' previous previous' : ℕ → ℕ) (first len : ℕ) (r : Ring mine next previous first len) (none : len ≡ 0) (q i : ℕ) (within : i ≤ len)
     (fresh : mine q → ⊥) (now : mine' q) (kept : (p : ℕ) → mine p → mine' p) (only : (p : ℕ) → mine' p → (mine p) ⊎ (p ≡ q))
     (next_q : next' q ≡ q) (previous_q : previous' q ≡ q) (first' : ℕ) (first_is : first' ≡ q) where
@@ -69,7 +69,7 @@ module _ (mine mine' : ℕ → Type 0) (next next' previous previous' : ℕ → 
   unfolding ring-one first_thread thread-insert
   places-ring-one = refl
 
--- a place before the i-th, between a and b
+-- q is inserted before element i, between a and b
 module _ (mine mine' : ℕ → Type 0) (next next' previous previous' : ℕ → ℕ) (first len : ℕ) (r : Ring mine next previous first len) (q i a b : ℕ) (within : i ≤ len) (some : 0 < len)
     (fresh : mine q → ⊥) (now : mine' q) (kept : (p : ℕ) → mine p → mine' p) (only : (p : ℕ) → mine' p → (mine p) ⊎ (p ≡ q))
     (b_at : i < len → b ≡ get_or r.thread.places i 0) (b_end : i ≡ len → b ≡ first) (a_is : a ≡ previous b)
@@ -134,7 +134,7 @@ module _ (mine mine' : ℕ → Type 0) (next next' previous previous' : ℕ → 
     unfolding ring-insert longer thread-insert
     places-ring-insert = refl
 
--- without the place between a and b
+-- the place p between a and b is removed
 module _ (mine mine' : ℕ → Type 0) (next next' previous previous' : ℕ → ℕ) (first len : ℕ) (r : Ring mine next previous first len) (p i a b : ℕ) (within : i < len)
     (is : get_or r.thread.places i 0 ≡ p) (a_is : a ≡ previous p) (b_is : b ≡ next p)
     (kept : (s : ℕ) → mine s → s ≢ p → mine' s) (only : (s : ℕ) → mine' s → mine s × (s ≢ p))
@@ -219,7 +219,7 @@ ring-steps mine next previous first len r (suc n) lt =
     ap previous (ring-steps mine next previous first len r n (omega (arith, lt)))
     ∙ (ap (λ k. previous (get_or r.thread.places k 0)) (omega arith) ∙ step_back mine next previous first len r (len - 1 - suc n) (omega (arith, lt)))
 
--- the place to put before, that many steps back
+-- element i of the ring is len - i steps back from the first
 pub steps-at : (mine : ℕ → Type 0) (next previous : ℕ → ℕ) (first len : ℕ) (r : Ring mine next previous first len) (i : ℕ) → i < len → steps previous (len - i) first ≡ get_or r.thread.places i 0
 steps-at mine next previous first len r i lt =
     let e : len - i ≡ suc (len - i - 1) = omega (arith, lt) in
@@ -232,7 +232,7 @@ pub steps-mine : (mine : ℕ → Type 0) (next previous : ℕ → ℕ) (first le
 steps-mine mine next previous first len r zero some = mine_first mine next previous first len r some
 steps-mine mine next previous first len r (suc n) some = mine_previous mine next previous first len r _ (steps-mine mine next previous first len r n some)
 
--- a step before the others, or after them
+-- one step commutes with n steps
 pub steps-first : (link : ℕ → ℕ) (n p : ℕ) → steps link n (link p) ≡ link (steps link n p)
 steps-first link zero p = refl
 steps-first link (suc n) p = ap link (steps-first link n p)

@@ -1,4 +1,4 @@
--- No list is longer than there are places, and a walk along a chain stays in it.
+-- No list has more elements than there are places, and a walk along a chain stays within the places.
 use Rattle.std.proofs.Common.{◌≡◌, ◌∙◌, ℕ, ◌<◌, List, length, refl, sym, ap, subst, arith, IsSome, Option, Some, None}
 use Rattle.std.specs.Option.{option_map}
 use Rattle.teb_names.specs.declared.Cell.{Cell}
@@ -34,7 +34,7 @@ module _ (ps : List Place) (chain : Cell → Head) (own : Txn → Head) (unused 
   pub free_first : 0 < unused.len → IsFree ps unused.first
   free_first some = subst (IsFree ps) (sym (S.frees.head some)) (S.frees.inside 0 some)
 
-  -- where a place is free
+  -- if a place is free, every chain and every writer's list has fewer elements than there are places
   pub chain_short : (x : Cell) → 0 < unused.len → (chain x).len < length ps
   chain_short x some =
       let f = free_first some in
@@ -45,7 +45,7 @@ module _ (ps : List Place) (chain : Cell → Head) (own : Txn → Head) (unused 
       let f = free_first some in
       len-lt (IsOwned ps t) (sibling_at ps) _ _ (length ps) (S.owners t) (λ p m. m.within) unused.first f.within (λ m. free_owned ps unused.first t f m)
 
-  -- where one is not
+  -- if a place is in a chain, the free list has fewer elements than there are places
   pub free_short : (x : Cell) (p : ℕ) → InChain ps x p → unused.len < length ps
   free_short x p m = len-lt (IsFree ps) (sibling_at ps) _ _ (length ps) S.frees (λ q f. f.within) p m.within (λ f. free_chain ps p x f m)
 
@@ -62,7 +62,7 @@ module _ (ps : List Place) (chain : Cell → Head) (own : Txn → Head) (unused 
   pub chain_some : (x : Cell) (p : ℕ) → InChain ps x p → 0 < (chain x).len
   chain_some x p m = let at = (S.chains x).thread.complete p m in omega (arith, at.1.0)
 
-  -- the same of a chain whose places and head were read
+  -- the same for a chain whose places and head were read
   module _ (qs : List Place) (same : qs ≡ ps) (x : Cell) (h : Head) (is : h ≡ chain x) where
     pub read_within : (n : ℕ) → 0 < h.len → steps (previous_at qs) n h.first < length qs
     read_within n some =

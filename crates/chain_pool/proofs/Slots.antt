@@ -1,4 +1,4 @@
--- A slot that is written: what stays of the other places, and what a chain shows.
+-- Writing a slot: what stays unchanged elsewhere, and the versions of a chain.
 use Rattle.std.proofs.Common.{true, false, ◌≡◌, ◌==◌, ℕ, suc, ◌-◌, ◌<◌, ◌≢◌, List, [], ◌∷◌, ◌++◌, length, get_or, take, drop, map, refl, sym, ◌∙◌, ap, arith, if◌then◌else◌, Option, Some, None, ℤ, unwrap_or, eq-eqb}
 use Rattle.std.specs.List.{insert, remove}
 use Rattle.std.specs.Option.{option_map}
@@ -15,7 +15,7 @@ use Rattle.chain_pool.specs.Linked.{versions}
 use Rattle.chain_pool.proofs.Threads.{thread-walk}
 use Rattle.chain_pool.proofs.Rings.{last_place}
 
--- a choice by a test of two numbers
+-- a choice by comparing two numbers
 pub chosen : {X : Type 0} (r q : ℕ) (x y : X) → r ≡ q → (if r == q then x else y) ≡ x
 chosen r q x y e = let t : (r == q) ≡ true = eq-eqb r q e in rw t
 
@@ -32,7 +32,7 @@ pub map-agree : {Y : Type 0} (f g : ℕ → Y) (L : List ℕ) → ((j : ℕ) →
 map-agree f g [] h = refl
 map-agree f g (x ∷ L) h = ap (λ y. y ∷ map f L) (h 0 (omega arith)) ∙ ap (λ l. g x ∷ l) (map-agree f g L (λ j lt. h (suc j) (omega arith)))
 
--- a place is in one chain, in one writer's list, and not free then
+-- a place is in at most one chain and in at most one writer's list, and is then not free
 module _ (ps : List Place) (p : ℕ) where
   pub one_chain : (x y : Cell) → InChain ps x p → InChain ps y p → x ≡ y
   one_chain x y m n = let e : Some x ≡ Some y = sym m.is_mine ∙ n.is_mine in cc
@@ -46,7 +46,7 @@ module _ (ps : List Place) (p : ℕ) where
   pub free_owned : (t : Txn) → IsFree ps p → IsOwned ps t p → ⊥
   free_owned t f m = let e : None ≡ Some t = sym (ap (option_map (λ (v : Stored). v.writer)) f.free) ∙ m.is_mine in cc
 
--- the writer that a chain shows is the one whose list has the place
+-- the writer of a version in a chain is the transaction whose list has its place
 pub pair_owner : (ps : List Place) (t : Txn) (p : ℕ) → IsOwned ps t p → (pair_at ps p).0 ≡ t
 pair_owner ps t p m = from (slot_at ps p).version m.is_mine
   where
@@ -77,7 +77,7 @@ pub same-end : (ps ps' : List Place) (x : Cell) (h : Head) (L : List ℕ) → Ri
     → 0 < h.len → previous_at ps h.first ≡ previous_at ps' h.first
 same-end ps ps' x h L r r' some = ring-end ps x h L r some ∙ sym (ring-end ps' x h L r' some)
 
--- what stays where one slot is written
+-- what stays unchanged if one slot is written
 module _ (ps ps' : List Place) (q : ℕ) (s : Slot) (len : length ps' ≡ length ps) (slots : (r : ℕ) → slot_at ps' r ≡ (if r == q then s else slot_at ps r)) where
   pub slot_here : slot_at ps' q ≡ s
   slot_here = slots q ∙ chosen q q s (slot_at ps q) refl

@@ -1,4 +1,4 @@
--- A list that was taken out of the entries: what its first place is, and what freeing that does.
+-- A list that was taken out of the entries: its first place, and the effect of freeing that place.
 use Rattle.std.proofs.Common.{◌≡◌, ◌==◌, ◌+◌, ◌-◌, ◌<◌, ℕ, List, length, refl, sym, subst, if◌then◌else◌, None, Some}
 use Rattle.std.specs.Option.{option_map}
 use Rattle.teb_names.specs.declared.Cell.{Cell}
@@ -16,7 +16,7 @@ use Rattle.chain_pool.proofs.Freeing.{IsFreed, freeing}
 use Rattle.chain_pool.proofs.Lookups.{with_head-here, with_head-twice}
 use Rattle.chain_pool.proofs.Sizes.{owned_first, previous_within, next_within, chain_some, free_short}
 
--- a place whose version has a writer is one of its cell
+-- if the version at a place has a writer, it also has the cell
 cell_kept : (cell : Cell) (writer t : Txn) (c : Content) → option_map (λ (v : Stored). v.writer) (version_of cell writer c) ≡ Some t
     → option_map (λ (v : Stored). v.cell) (version_of cell writer c) ≡ Some cell
 cell_kept cell writer t Free is = let z : None ≡ Some t = is in cc
@@ -33,7 +33,7 @@ module _ (ps : List Place) (chain : Cell → Head) (own : Txn → Head) (unused 
   pub first_owned : IsOwned ps t h.first
   first_owned = subst (λ (g : Head). IsOwned ps t g.first) here (owned_first ps chain with_h unused S t (subst (λ (g : Head). 0 < g.len) (sym here) some))
 
-  -- what is known where the places are qs, and the first of the list is as taken
+  -- what holds if the places are qs and the first place of the list is `taken`
   abbrev pub UsedAs : List Place → Place → Type 0
   UsedAs qs taken = (taken.previous < length qs) × (taken.next < length qs) × (0 < (chain taken.cell).len) × (unused.len < length qs)
 

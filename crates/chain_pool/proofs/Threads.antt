@@ -1,4 +1,4 @@
--- What an edit of the links does to a list of places.
+-- The effect of an edit of the links on a list of places.
 use Rattle.std.proofs.Common.{eqb, false, ◌≡◌, ℕ, zero, suc, ◌+◌, ◌-◌, ◌<◌, ◌≤◌, ◌≢◌, ◌⊎◌, List, [], ◌∷◌, length, get_or, refl, sym, ◌∙◌, ap, subst, inl, inr, arith, true}
 use Rattle.std.specs.List.{insert, remove, IsDistinct, AllByRecursion, list_any}
 use Rattle.std.proofs.lemmas.Bool.{cases_lt, cases_eq, false≢true}
@@ -7,7 +7,7 @@ use Rattle.std.proofs.lemmas.List.Edits.{length-insert, get_or-insert_below, get
 use Rattle.std.proofs.lemmas.Map.Steps.{length-le_from_distinct_below}
 use Rattle.chain_pool.specs.Threads.{Thread, walk, steps}
 
--- what a place of a list is after an insert: one of three
+-- the element at an index after an insertion: below, at or above the inserted one
 module _ (L : List ℕ) (i q : ℕ) (within : i ≤ length L) where
   pub below : (j : ℕ) → j < i → get_or (insert L i q) j 0 ≡ get_or L j 0
   below j lt = get_or-insert_below L i q 0 j lt within
@@ -96,7 +96,7 @@ module _ (mine mine' : ℕ → Type 0) (next next' : ℕ → ℕ) (first len : �
     complete = complete';
   }
 
--- the same list, where nothing of it changed
+-- the list is unchanged if nothing of it changed
 unfoldable pub thread-keep : (mine mine' : ℕ → Type 0) (next next' : ℕ → ℕ) (first len : ℕ) (t : Thread mine next first len)
     → ((p : ℕ) → mine p → mine' p) → ((p : ℕ) → mine' p → mine p) → ((p : ℕ) → mine p → next' p ≡ next p) → Thread mine' next' first len
 thread-keep mine mine' next next' first len t kept only same = record {
@@ -109,7 +109,7 @@ thread-keep mine mine' next next' first len t kept only same = record {
   complete = λ p m. t.complete p (only p m);
 }
 
--- what a place of a list is after a removal
+-- the element at an index after a removal
 module _ (L : List ℕ) (i : ℕ) (within : i < length L) where
   pub low : (j : ℕ) → j < i → get_or (remove L i) j 0 ≡ get_or L j 0
   low j lt = get_or-remove_below L i 0 j lt within
@@ -196,7 +196,7 @@ walk_is next (x ∷ L) (suc n) p len head link =
 pub thread-walk : (mine : ℕ → Type 0) (next : ℕ → ℕ) (first len : ℕ) (t : Thread mine next first len) → walk next len first ≡ t.places
 thread-walk mine next first len t = walk_is next t.places len first t.count t.head t.link
 
--- there are no more places than there is room
+-- a list has no more elements than there are places
 distinct_tail : (x : ℕ) (L : List ℕ) → ((i j : ℕ) → i < length (x ∷ L) → j < length (x ∷ L) → get_or (x ∷ L) i 0 ≡ get_or (x ∷ L) j 0 → i ≡ j) → (i j : ℕ) → i < length L → j < length L
     → get_or L i 0 ≡ get_or L j 0 → i ≡ j
 distinct_tail x L d i j li lj e = let s = d (suc i) (suc j) (omega (arith, li)) (omega (arith, lj)) e in omega (arith, s)
@@ -217,7 +217,7 @@ all_below (x ∷ L) n h q in_it = elim (cases_eq q x) [
   | inr ne ↦ all_below L n (λ i lt. h (suc i) (omega arith)) q (grind (arith, nat_tests, in_it, ne))
 ]
 
--- nor as many, where one is not mine
+-- a list has fewer elements than there are places if some place is not in it
 pub len-lt : (mine : ℕ → Type 0) (next : ℕ → ℕ) (first len room : ℕ) (t : Thread mine next first len) → ((p : ℕ) → mine p → p < room) → (q : ℕ) → q < room → (mine q → ⊥) → len < room
 unfolding IsDistinct
 len-lt mine next first len room t within q q_in fresh =
@@ -231,12 +231,12 @@ len-lt mine next first len room t within q q_in fresh =
     below_all zero lt = q_in
     below_all (suc i) lt = within _ (t.inside i (omega (arith, t.count, lt)))
 
--- the places of a list, by their steps from the first
+-- element n of a list is n steps from the first
 pub thread-steps : (mine : ℕ → Type 0) (next : ℕ → ℕ) (first len : ℕ) (t : Thread mine next first len) (n : ℕ) → n < len → steps next n first ≡ get_or t.places n 0
 thread-steps mine next first len t zero lt = t.head lt
 thread-steps mine next first len t (suc n) lt = ap next (thread-steps mine next first len t n (omega (arith, lt))) ∙ (t.link n (omega (arith, lt)) ∙ ap (λ k. get_or t.places k 0) (omega arith))
 
--- a list of none
+-- an empty list
 pub thread-none : (mine : ℕ → Type 0) (next : ℕ → ℕ) (first first' len : ℕ) → Thread mine next first len → len ≡ 0 → Thread mine next first' 0
 thread-none mine next first first' len t none = record {
   places = [];

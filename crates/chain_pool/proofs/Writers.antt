@@ -1,4 +1,4 @@
--- One that is none of the writers, as chains change.
+-- A transaction that is not a writer, as chains change.
 use Rattle.std.proofs.Common.{true, false, Bool, IsTrue, ◌↔◌, cond, not, eqb, ne_eqb, ◌||◌, ◌≡◌, ◌≢◌, ℕ, zero, suc, List, [], ◌∷◌, insert, refl, sym, ◌∙◌, ap, subst, Option, None, ℤ}
 use Rattle.std.proofs.lemmas.Bool.{or_from, or_parts}
 use Rattle.std.specs.Bool.{OnTrue}
@@ -40,7 +40,7 @@ absent-without u (v ∷ vs) t off =
     at true here rest = rest
     at false here rest = or_from _ _ here rest
 
--- where one cell's chain changes
+-- the chain of one cell changes
 module _ (L M : Cell → List Version) (cell : Cell) (elsewhere : (x : Cell) → (cell ≡ x → ⊥) → M x ≡ L x) (t : ℕ) (x : Cell) (off : is_writer (L x) t ≡ false) where
   off_here : cell ≡ x → is_writer (L cell) t ≡ false
   off_here e = subst (λ (y : Cell). is_writer (L y) t ≡ false) (sym e) off

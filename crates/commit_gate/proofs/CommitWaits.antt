@@ -1,4 +1,4 @@
--- Whom a Commit waits for at a node: the least of whom the gate names and of the sources.
+-- At each node, a Commit waits for the lowest-numbered of the transactions that the gate names and the unfinished sources that it meets there.
 use Rattle.std.proofs.Common.{◌≡◌, ◌<◌, ℕ, zero, suc, Bool, true, false, cond, ◌&&◌, ◌||◌, eqb, ltb, min, List, length, [], ◌∷◌, get_or, find, Option, Some, None, refl, sym, ◌∙◌, ap, inl, inr, arith, lt-ltb}
 use Rattle.std.proofs.lemmas.Bool.{and_parts, cases_lt, ltb-true, le-ltb, eq-eqb, or_left, or_right}
 use Rattle.teb_names.specs.declared.Node.{Node}
@@ -32,7 +32,7 @@ number : Option Txn → Option ℕ
 number None = None
 number (Some w) = Some w.0
 
--- the lesser of two waits
+-- the lower-numbered of two waits
 waits_merge : (a : Option ℕ) (b : Option Txn) → first_wait (wait_for a) b ≡ wait_for (lesser a (number b))
 unfolding number
 waits_merge None None = refl
@@ -43,7 +43,7 @@ waits_merge (Some a) (Some w) = elim (cases_lt a w.0) [
   | inr ge ↦ ap (λ (o : Bool). Wait (cond o (record { 0 = a }) w)) (le-ltb a w.0 ge) ∙ ap (λ (k : ℕ). Wait (record { 0 = k })) (let e : w.0 ≡ min a w.0 = omega arith in e)
 ]
 
--- a verdict that is not Go stands
+-- a verdict other than Go decides
 pub stopped : (v w : Verdict) → (v ≡ Go → ⊥) → v ≡ or_else v w
 stopped Go w h = absurd (h refl)
 stopped (Wait u) w h = refl
@@ -85,7 +85,7 @@ module _ (S : Setup) (H : List Event) (n : ℕ) (t : Txn) (orderly : Orderly H) 
       ∙ ap (λ (o : Option ℕ). wait_for (lesser (find g (txns H)) o)) (sym found)
       ∙ ap wait_for (sym (find_either g Waits (begun_count H)))
 
--- the nodes of t's path
+-- the path of t is a way: its nodes are nodes of the tree and on t's path
 In-among : (n : ℕ) (xs : List ℕ) → In n xs → among n xs ≡ true
 In-among n [] i = absurd i
 In-among n (x ∷ xs) i = elim i [ inl e ↦ or_left (eqb x n) (among n xs) (eq-eqb x n e) | inr j ↦ or_right (eqb x n) (among n xs) (In-among n xs j) ]
@@ -99,7 +99,7 @@ way_within f a t y (n ∷ ns) h = (
   way_within f a t y ns (λ m i. h m (inr i)),
 )
 
--- who is unfinished is of a type of the setup
+-- an unfinished transaction has a type of the setup
 pub typed_now : (f : Facts) (t : ℕ) → Lawful (setup_of f) (events_of f) → unfinished (events_of f) t ≡ true → IsTyped f t
 unfolding begun
 typed_now f t l u =
@@ -109,7 +109,7 @@ typed_now f t l u =
 pub path_way : (f : Facts) → TreeFacts (setup_of f) → (t : ℕ) → IsTyped f t → IsWay f t (path (setup_of f).tree (spot_of (events_of f) t))
 path_way f a t y = way_within f a t y (path (setup_of f).tree (spot_of (events_of f) t)) (λ n i. i)
 
--- each node of a way is one of the tree's, and on t's path
+-- each node of a way is a node of the tree and on t's path
 pub way_at : (f : Facts) (t : ℕ) (ns : List Node) (k : ℕ) (d : Node) → IsWay f t (node_numbers ns) → k < length ns → ((get_or ns k d).0 < length f.tree.now.rows) × IsHere f (get_or ns k d).0 t
 way_at f t [] k d w h = absurd (omega arith)
 way_at f t (n ∷ ns) zero d w h = (w.0, w.1)

@@ -1,4 +1,4 @@
--- The first element that passes a test, found by a walk.
+-- A walk finds the first element that passes a test.
 use Rattle.std.proofs.Common.{◌≡◌, ℕ, zero, suc, ◌<◌, Bool, true, false, cond, List, [], ◌∷◌, length, take, get_or, find, Some, None, sym, ap, arith}
 
 module _ {A : Type 0} (q : A → Bool) where

@@ -1,4 +1,4 @@
--- What a store keeps behind an answer of its engine: X and H before the call, Z and L behind it.
+-- What a store keeps across an answer of its engine: X and H are the store and history before the call, Z and L those after it.
 use Rattle.std.proofs.Common.{◌≡◌, ◌+◌, ◌≤◌, ℕ, List, ◌∷◌, ◌++◌, [], length, Some, ap, sym, subst, ◌∙◌, arith}
 use Rattle.teb_names.specs.declared.Session.{Session}
 use Rattle.teb_names.specs.declared.Request.{Request}
@@ -22,7 +22,7 @@ use Rattle.commit_journal.specs.Whole.{KeepsAll}
 use Rattle.commit_journal.proofs.Replies.{outcome, committed_now, records_same}
 use Rattle.commit_journal.proofs.Asked.{keeps_same, records_more, body_some, has_room}
 
--- the answer commits what the session asked to commit
+-- the answer commits the transaction that the session asked to commit
 pub record Commits (H L : List Event) (s : Session) (r : Request) : Type 0 where
   pub number : ℕ
   pub asked : committing H s r ≡ Some number
@@ -44,13 +44,13 @@ module _ (X : Store) (H L : List Event) (s : Session) (r : Request) (bytes : Lis
   pub fits_in : (left : ℕ) → (IsFull H left s r → ⊥) → length bytes + 1 ≤ left
   fits_in left fits = omega (arith, (body commit.number commit.asked).1, has_room H left s r commit.number commit.asked fits)
 
-  -- what holds of the records before it
+  -- a property that holds whenever records are kept holds for the records before the answer
   pub of_before : {D : Type 0} (seen : D → List ℕ) (may_leave : D → List ℕ → Type 0) (j : Journal D) (P : List Record → Type 0)
       → ((asked : List Record) (c : Record) → IsBody c bytes → Keeps seen may_leave asked j → P asked)
       → KeepsAll seen may_leave X H j → P (records_of X.setup H)
   of_before seen may_leave j P holds kept = holds (records_of X.setup H) (record_of X.setup H commit.number) (body commit.number commit.asked).0 kept
 
-  -- what holds of the records with one more holds of those behind it
+  -- a property that holds for the kept records with one more holds for the records after the answer
   pub of_behind : {D : Type 0} (seen : D → List ℕ) (may_leave : D → List ℕ → Type 0) (Z : Store) (j : Journal D) (P : List Record → Type 0)
       → Z ≡ X
       → ((asked : List Record) (c : Record) → IsBody c bytes → Keeps seen may_leave asked j → P (asked ++ c ∷ [])) → KeepsAll seen may_leave X H j → P (records_of Z.setup L)
@@ -58,16 +58,16 @@ module _ (X : Store) (H L : List Event) (s : Session) (r : Request) (bytes : Lis
       subst P (sym (records_more X Z H L commit.number store commit.events))
       (holds (records_of X.setup H) (record_of X.setup H commit.number) (body commit.number commit.asked).0 kept)
 
--- nothing but the events is another
+-- the kept state differs only in its events
 pub same_but_events : {D : Type 0} (e f : EngineModel) (j : Journal D) → f.store ≡ e.store → f.names ≡ e.names → kept_of f j ≡ record (kept_of e j) { events = f.events }
 same_but_events e f j store names = ap (λ (Z : Store). kept_of (record f { store = Z }) j) store ∙ ap (λ (N : NameBook). kept_of (record f { store = e.store; names = N }) j) names
 
 module _ {D : Type 0} (seen : D → List ℕ) (may_leave : D → List ℕ → Type 0) where
-  -- the engine was made ready
+  -- making the engine ready keeps what the journal keeps
   pub keeps_alike : (e f : EngineModel) (j : Journal D) → kept_of f j ≡ kept_of e j → KeepsAll seen may_leave e.store e.events j → KeepsAll seen may_leave f.store f.events j
   keeps_alike e f j same kept = subst (λ (o : Kept D). KeepsAll seen may_leave o.store o.events j) (sym same) kept
 
-  -- the answer commits nobody
+  -- an answer that commits no transaction keeps what the journal keeps
   pub keeps_quiet : (X Z : Store) (H L : List Event) (j : Journal D) (s : Session) (r : Request) (reply : Reply)
       → KeepsAll seen may_leave X H j → Z ≡ X → reply ≡ (answer X H s r).0
       → L ≡ (answer X H s r).1 → (reply ≡ Committed → ⊥) → KeepsAll seen may_leave Z L j

@@ -1,4 +1,4 @@
--- What a request would commit, and what holds behind it.
+-- The transaction that a request would commit, and what holds after it commits.
 use Rattle.std.proofs.Common.{◌≡◌, ◌<◌, ◌≤◌, ◌+◌, ◌*◌, ℕ, Bool, true, false, cond, List, [], ◌∷◌, ◌++◌, length, Option, Some, None, refl, sym, ap, subst, ◌∙◌, arith, inl, inr, length-append, Result, Ok, Err, ℤ, take}
 use Rattle.std.proofs.lemmas.Bool.{cases_lt}
 use Rattle.teb_names.specs.declared.Txn.{Txn}
@@ -60,7 +60,7 @@ committing_some H s t e u = ap txn_of (sym (ap (if_unfinished H) (txn_of_some (h
 pub committing_none : (H : List Event) (s : Session) (t : Txn) → Some t ≡ txn_of (held H s.0) → unfinished H t.0 ≡ false → None ≡ txn_of (committing H s Commit)
 committing_none H s t e u = ap txn_of (sym (ap (if_unfinished H) (txn_of_some (held H s.0) t e) ∙ ap (λ (b : Bool). cond b (Some t.0) None) u))
 
--- who would be committed is unfinished
+-- the transaction that would be committed is unfinished
 pub committing_unfinished : (H : List Event) (s : Session) (r : Request) (t : ℕ) → committing H s r ≡ Some t → unfinished H t ≡ true
 committing_unfinished H s Commit t e = go (held H s.0) e
   where
@@ -84,38 +84,38 @@ committing_unfinished H s End t e = absurd (cc)
 pub same_txn : (o : Option ℕ) (t u : ℕ) → o ≡ Some t → o ≡ Some u → t ≡ u
 same_txn o t u a b = let q : Some t ≡ Some u = sym a ∙ b in cc
 
--- a body has a byte at least
+-- a body has at least one byte
 pub body_some : (r : Record) (bytes : List ℕ) → IsBody r bytes → 0 < length bytes
 body_some r bytes is = omega (arith, ap length is.is, length-append (body r) (0 ∷ []))
 
 pub has_room : (H : List Event) (left : ℕ) (s : Session) (r : Request) (t : ℕ) → committing H s r ≡ Some t → (IsFull H left s r → ⊥) → 6 + 14 * length (puts_of H t) ≤ left
 has_room H left s r t e fits = elim (cases_lt left (6 + 14 * length (puts_of H t))) [ inl lt ↦ absurd (fits (record { txn = t; commits = e; full = lt })) | inr le ↦ le ]
 
--- ---- what the journal of a store keeps, behind a request
+-- ---- what the journal of a store keeps after a request
 
 pub records_more : (X Y : Store) (H K : List Event) (t : ℕ) → Y ≡ X → K ≡ Done (txn t) ∷ H → records_of Y.setup K ≡ records_of X.setup H ++ record_of X.setup H t ∷ []
 unfolding records_of
 records_more X Y H K t is-store is-events = ap (λ (Z : Store). records_of Z.setup K) is-store ∙ ap (records_of X.setup) is-events
 
 module _ {D : Type 0} (seen : D → List ℕ) (may_leave : D → List ℕ → Type 0) where
-  -- nothing has happened
+  -- the history is empty
   pub keeps_none : (X : Store) (H : List Event) (j : Journal D) → H ≡ [] → Keeps seen may_leave [] j → KeepsAll seen may_leave X H j
   unfolding records_of
   keeps_none X H j is d = subst (λ (P : List Event). KeepsAll seen may_leave X P j) (sym is) d
 
-  -- nothing was committed
+  -- no transaction was committed
   pub keeps_same : (X Y : Store) (H K : List Event) (j : Journal D) → KeepsAll seen may_leave X H j → Y ≡ X → records_of X.setup K ≡ records_of X.setup H → KeepsAll seen may_leave Y K j
   keeps_same X Y H K j d is-store same = subst (λ (Z : Store). KeepsAll seen may_leave Z K j) (sym is-store) (subst (λ (rs : List Record). Keeps seen may_leave rs j) (sym same) d)
 
-  -- all commits are acknowledged, as long as the disk has not failed
+  -- all commits are acknowledged if the disk has not failed
   pub all_acknowledged : (X : Store) (H : List Event) (j : Journal D) → KeepsAll seen may_leave X H j → j.stopped ≡ false → j.progress.acknowledged ≡ commit_count H
   all_acknowledged X H j d runs = (d.running runs).all ∙ length-records X.setup H
 
-  -- and the journal ends behind their records
+  -- the journal ends after the records of all commits if the disk has not failed
   pub ends_behind : (X : Store) (H : List Event) (j : Journal D) → KeepsAll seen may_leave X H j → j.stopped ≡ false → j.progress.end ≡ length (records (records_of X.setup H))
   ends_behind X H j d runs = (d.running runs).at_rest.size
 
--- no call
+-- no call was made
 pub no_calls : (k n : ℕ) (a b : Tally) → b ≡ a → IsUpTo k n a b
 no_calls k n a b same = subst (IsUpTo k n a) (sym same) (record { made = omega arith; written = omega arith; promise = refl })
 
@@ -130,7 +130,7 @@ pub if_ok_map : {T E : Type 0} (r : Result T E) (P Q : T → Type 0) → IfOk r 
 if_ok_map (Ok v) P Q p f = f v p
 if_ok_map (Err e) P Q p f = tt
 
--- what was found on an image of a store on a disk
+-- rows that were recovered from an image of the disk are those after the first k commits
 pub found_rows : (X : Store) (H : List Event) (k least : ℕ) (rows start : List (Cell × ℤ)) → IsSound X.setup → Lawful X.setup H → X.rows ≡ start
     → (least ≤ k) × (k ≤ length (records_of X.setup H)) × ((x : Cell) → row_of rows x ≡ after_records (take k (records_of X.setup H)) (row_of start) x)
     → (least ≤ k) × (k ≤ commit_count H) × ((x : Cell) → row_of rows x ≡ rows_after X H k x)

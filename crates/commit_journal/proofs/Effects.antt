@@ -1,4 +1,4 @@
--- What an answer tells of a store on a disk, by its effect.
+-- The consequences of an answer's effect for a store on a disk.
 use Rattle.std.proofs.Common.{◌≡◌, ◌+◌, ◌*◌, ◌^◌, ◌<◌, ◌≤◌, ℕ, false, true, List, length, Some, ap, subst, sym, ◌∙◌, arith, Result, Ok, Err}
 use Rattle.std.specs.Prelude.{IfOk, IfErr, OnOk, IsErrOf}
 use Rattle.teb_io.specs.Faults.{Rose}

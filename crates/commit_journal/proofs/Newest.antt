@@ -1,4 +1,4 @@
--- Whose version stands last in a chain.
+-- Whether a transaction's version follows those of all committed transactions in a chain.
 use Rattle.std.proofs.Common.{◌≡◌, ◌⊎◌, ◌<◌, ℕ, Bool, true, false, not, ◌&&◌, eqb, List, Some, None, refl, sym, ap, subst, ◌∙◌, arith, inl, inr, length, get_or, eqb-true, le-ltb}
 use Rattle.std.proofs.lemmas.Bool.{eq-eqb, both_ways, cases_order, cases_Bool, and_from, and_parts, or_cases, or_left, or_right, not-true, not_from_false, false_from_ne_true, eqb-false}
 use Rattle.teb_names.specs.declared.Cell.{Cell}
@@ -53,7 +53,7 @@ module _ (S : Setup) (H : List Event) (x : Cell) (L : Cell → List Version) (l 
     abbrev pub w : ℕ
     w = get_or ws i 0
 
-    -- whoever passes stands at i or below
+    -- an element that passes is at i or before it
     low : (k v : ℕ) → k < length ws → get_or ws k 0 ≡ v → p v ≡ true → (k ≡ i) ⊎ (k < i)
     low k v lt is ok = elim (cases_order k i) [
       | inl e ↦ inl e

@@ -1,4 +1,4 @@
--- The last Puts of a transaction, one event after the other.
+-- The last Puts of a transaction, one event at a time.
 use Rattle.std.proofs.Common.{◌≡◌, ◌≤◌, ◌<◌, ◌+◌, ℕ, zero, suc, Bool, true, false, cond, not, ◌||◌, List, [], ◌∷◌, ◌++◌, Option, Some, None, ℤ, refl, sym, ap, ap₂, subst, ◌∙◌, arith, inl, inr, length, length-append, filter, get_or, take, append_assoc, if◌then◌else◌, lt-ltb}
 use Rattle.std.specs.List.{list_any}
 use Rattle.std.specs.BTreeMap.{is_at}
@@ -25,7 +25,7 @@ use Rattle.teb_history.specs.OwnEvents.{own_events}
 use Rattle.teb_history.proofs.OwnWalks.{last_put_own}
 use Rattle.teb_laws.proofs.ReadRule.{last_put-none}
 
--- those of other cells
+-- the changes of cells that `seen` does not have
 abbrev pub fresh : Record → Record → Record
 fresh seen cs = filter (λ c. not (has seen c.cell)) cs
 
@@ -33,7 +33,7 @@ pub fresh_first : (cs : Record) → fresh [] cs ≡ cs
 fresh_first [] = refl
 fresh_first (c ∷ cs) = ap (λ (l : Record). c ∷ l) (fresh_first cs)
 
--- no change of a cell that is there
+-- removing the changes of a cell that is already there removes nothing fresh
 pub same_fresh : (seen cs : Record) (y : Cell) → has seen y ≡ true → fresh seen (filter (λ c. not (same_cell c.cell y)) cs) ≡ fresh seen cs
 same_fresh seen [] y h = refl
 same_fresh seen (c ∷ cs) y h = go (same_cell c.cell y) refl (same_fresh seen cs y h)
@@ -59,7 +59,7 @@ itself : (b : Bool) → cond b true false ≡ b
 itself true = refl
 itself false = refl
 
--- a change of a cell that is not there yet
+-- a change of a cell that is not there yet is fresh
 pub more_fresh : (seen cs : Record) (d : Change) → has seen d.cell ≡ false → fresh seen (d ∷ filter (λ c. not (same_cell c.cell d.cell)) cs) ≡ d ∷ fresh (seen ++ d ∷ []) cs
 more_fresh seen cs d absent = ap (λ (b : Bool). cond (not b) (d ∷ rest) rest) absent ∙ ap (λ (l : Record). d ∷ l) (others cs)
   where
@@ -80,7 +80,7 @@ more_fresh seen cs d absent = ap (λ (b : Bool). cond (not b) (d ∷ rest) rest)
             ∙ itself (has seen c.cell) in
             ap (λ (l : Record). cond (not (has seen c.cell)) (c ∷ l) l) ih ∙ ap (λ (t : Bool). cond (not t) (c ∷ fresh (seen ++ d ∷ []) cs) (fresh (seen ++ d ∷ []) cs)) (sym same)
 
--- what was found, and what the events that are left add, are the last Puts
+-- the changes found so far, and those that the remaining events add, are the last Puts
 abbrev pub AreSoFar : Record → List Event → Record → Type 0
 AreSoFar all left so_far = all ≡ so_far ++ fresh so_far (last_puts left)
 
@@ -91,7 +91,7 @@ pub all_found : (all so_far : Record) → AreSoFar all [] so_far → all ≡ so_
 unfolding last_puts
 all_found all so_far is = is ∙ append-nil so_far
 
--- one Put more
+-- one more Put
 pub one_put : (all so_far next : Record) (left rest : List Event) (t : Txn) (y : Cell) (v : Option ℤ) → AreSoFar all left so_far → left ≡ Put t y v ∷ rest
     → next ≡ (if has so_far y then so_far else so_far ++ record { cell = y; value = v } ∷ []) → AreSoFar all rest next
 unfolding last_puts
@@ -114,11 +114,11 @@ one_put all so_far next left rest t y v is step adds = subst (λ (n : Record). A
         ∙ ap (λ (l : Record). so_far ++ l) (more_fresh so_far (last_puts rest) (record { cell = y; value = v }) e)
         ∙ sym (append_assoc so_far (record { cell = y; value = v } ∷ []) (fresh (so_far ++ record { cell = y; value = v } ∷ []) (last_puts rest)))
 
--- an event that is no Put adds nothing
+-- an event other than a Put adds no change
 pub other_event : (all so_far : Record) (left rest : List Event) (e : Event) → AreSoFar all left so_far → left ≡ e ∷ rest → last_puts (e ∷ rest) ≡ last_puts rest → AreSoFar all rest so_far
 other_event all so_far left rest e is step same = is ∙ ap (λ (es : List Event). so_far ++ fresh so_far (last_puts es)) step ∙ ap (λ (l : Record). so_far ++ fresh so_far l) same
 
--- ---- what is put was written
+-- ---- each cell in the last Puts was written
 
 found_at : (cs : Record) (i : ℕ) (d : Change) → i < length cs → (v : Option ℤ) × (lookup cs (get_or cs i d).cell ≡ Some v)
 found_at [] i d lt = absurd (omega arith)
@@ -142,7 +142,7 @@ put_wrote H t cs i d is lt =
     let x = (get_or cs i d).cell in
     wrote_if H t x f.0 (sym (last_put_own H t x) ∙ sym (lookup_puts (own_events H t) x) ∙ sym (ap (λ (l : Record). lookup l x) is) ∙ f.1)
 
--- one change more is looked at
+-- one more change is examined
 pub chosen_more : (p : Change → Bool) (cs so_far : Record) (i : ℕ) (d : Change) (b : Bool) → i < length cs → p (get_or cs i d) ≡ b → so_far ≡ filter p (take i cs)
     → cond b (so_far ++ get_or cs i d ∷ []) so_far ≡ filter p (take (i + 1) cs)
 chosen_more p cs so_far i d b lt test is = go b test ∙ sym (ap (filter p) (take_more cs i d lt) ∙ filter-append p (take i cs) (get_or cs i d ∷ []))
@@ -151,7 +151,7 @@ chosen_more p cs so_far i d b lt test is = go b test ∙ sym (ap (filter p) (tak
     go true e = ap (λ (l : Record). l ++ get_or cs i d ∷ []) is ∙ ap (λ (c : Bool). filter p (take i cs) ++ cond c (get_or cs i d ∷ []) []) (sym e)
     go false e = is ∙ sym (append-nil (filter p (take i cs))) ∙ ap (λ (c : Bool). filter p (take i cs) ++ cond c (get_or cs i d ∷ []) []) (sym e)
 
--- one event more
+-- one more event
 pub one_event : (all so_far next : Record) (left rest : List Event) (e : Event) → AreSoFar all left so_far → left ≡ e ∷ rest → next ≡ with_event so_far e → AreSoFar all rest next
 unfolding last_puts
 one_event all so_far next left rest (Put t y v) is step adds = one_put all so_far next left rest t y v is step adds

@@ -1,4 +1,4 @@
--- What a reply says of commits.
+-- What a reply says about commits.
 use Rattle.std.proofs.Common.{inl, inr, ◌≡◌, ℕ, Bool, true, false, cond, not, ◌&&◌, leb, ltb, is_none, List, [], ◌∷◌, Option, Some, None, refl, ◌∙◌, ap, unwrap_or, ℤ, ◌+ℤ◌}
 use Rattle.std.proofs.lemmas.Bool.{both_ways}
 use Rattle.teb_names.specs.declared.TheConstants.{MOST_TXNS, SESSIONS}
@@ -40,7 +40,7 @@ records_abort : (S : Setup) (H : List Event) (t : ℕ) (c : Cause) → records_o
 unfolding records_of abort
 records_abort S H t c = records_fall S H t (cascade H t) (Gone (txn t) c ∷ H)
 
--- an answer that commits nobody
+-- the answer commits no transaction
 abbrev pub IsQuiet : Setup → List Event → Answered → Type 0
 IsQuiet S H x = (x.0 ≡ Committed → ⊥) × (records_of S x.1 ≡ records_of S H)
 
@@ -81,7 +81,7 @@ access_quiet X H t x granted g =
     (cond_quiet S H (prepared H t) (refuse H IsPrepared) inner (refused S H IsPrepared)
     (cond_quiet S H (is_none (least_step (profile X.setup (kind_of H t)) (cursor X.setup H t) x.table.0)) (refuse H NotInProfile) granted (refused S H NotInProfile) g))
 
--- a request commits what the session holds, or commits nothing
+-- a request commits the transaction that its session holds, or none
 pub data Outcome (S : Setup) (H : List Event) (s : Session) (r : Request) (x : Answered) : Type 0 where
   commits : (t : ℕ) → committing H s r ≡ Some t → x ≡ (Committed, Done (txn t) ∷ H) → Outcome S H s r x
   others : IsQuiet S H x → Outcome S H s r x
@@ -132,7 +132,7 @@ of_new S H s Commit = others ((λ q. absurd (cc)), refl)
 of_new S H s Abort = others ((λ q. absurd (cc)), refl)
 of_new S H s End = others ((λ q. absurd (cc)), refl)
 
--- what a session holds is unfinished, or aborted
+-- a held transaction that is not aborted is unfinished
 is_unfinished : (H : List Event) (s : ℕ) (t : ℕ) → held H s ≡ Some t → aborted H t ≡ false → unfinished H t ≡ true
 is_unfinished H s t h f = elim (holds_cases H s t (held_holds H s t h)) [ inl u ↦ u | inr u ↦ absurd (both_ways _ f (untold_gone H t u)) ]
 
@@ -149,12 +149,12 @@ unfolding answer
 outcome X H s r = cond_outcome X.setup H s r (leb 1 s.0 && leb s.0 SESSIONS) (answer_to X H s r (held H s.0)) (refuse H BadSession) (to_outcome X H s r (held H s.0) refl)
     (others ((λ q. absurd (cc)), refl))
 
--- a Committed is the Done of what the session asked to commit
+-- a Committed reply adds the Done of the transaction that the session asked to commit
 pub committed_now : (S : Setup) (H : List Event) (s : Session) (r : Request) (x : Answered) → Outcome S H s r x → x.0 ≡ Committed → (t : ℕ) × (committing H s r ≡ Some t) × (x.1 ≡ Done (txn t) ∷ H)
 committed_now S H s r x (commits t c is) q = (t, c, ap (λ (y : Answered). y.1) is)
 committed_now S H s r x (others quiet) q = absurd (quiet.0 q)
 
--- any other reply leaves the records
+-- any other reply keeps the records
 pub records_same : (S : Setup) (H : List Event) (s : Session) (r : Request) (x : Answered) → Outcome S H s r x → (x.0 ≡ Committed → ⊥) → records_of S x.1 ≡ records_of S H
 records_same S H s r x (commits t c is) never = absurd (never (ap (λ (y : Answered). y.0) is))
 records_same S H s r x (others quiet) never = quiet.1

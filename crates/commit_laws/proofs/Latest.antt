@@ -1,4 +1,4 @@
--- Which writer of a cell is the latest, now and at an earlier position.
+-- The latest writer of a cell, now and at an earlier position.
 use Rattle.std.proofs.Common.{◌≡◌, ◌≢◌, ◌⊎◌, ◌<◌, ◌≤◌, ℕ, Bool, true, false, ◌&&◌, List, Option, Some, None, ℤ, refl, sym, ap, subst, ◌∙◌, arith, inl, inr, length, filter, unwrap_or, lt-ltb, ltb-true}
 use Rattle.std.proofs.lemmas.Bool.{both_ways, cases_eq, and_from, and_parts, not-true, not_from_false}
 use Rattle.teb_names.specs.declared.Cell.{Cell}
@@ -21,11 +21,11 @@ use Rattle.teb_laws.proofs.Transitive.{writers_ordered}
 use Rattle.teb_laws.proofs.VersionOrder.{Writes, writer_of, precedes_total, precedes_irreflexive}
 use Rattle.candidate_reads.proofs.InOrder.{find_only, find_nothing}
 
--- any two of them are ordered
+-- any two different writers in the list are ordered
 abbrev pub AreOrdered : Setup → List Event → Cell → List ℕ → Type 0
 AreOrdered S H x us = (u w : ℕ) → In u us → In w us → u ≢ w → (precedes S H x u w ≡ true) ⊎ (precedes S H x w u ≡ true)
 
--- the one that no other follows
+-- a writer that no other follows is the latest
 pub latest_is : (S : Setup) (H : List Event) (x : Cell) (us : List ℕ) (m : ℕ) → AreOrdered S H x us → In m us → ((u : ℕ) → In u us → precedes S H x m u ≡ false) → latest S H x us ≡ Some m
 unfolding latest
 latest_is S H x us m order there none =
@@ -43,12 +43,12 @@ pub latest_nobody : (S : Setup) (H : List Event) (x : Cell) (us : List ℕ) → 
 unfolding latest
 latest_nobody S H x us f = find_nothing _ us f
 
--- a committed transaction that has put x
+-- w is committed and has put x
 pub record Wrote (H : List Event) (x : Cell) (w : ℕ) : Type 0 where
   pub done : done_at H w < length H
   pub put : put_at H w x < length H
 
--- the committed writers of x, where c says who counts as committed
+-- the writers of x that c counts as committed
 abbrev pub counted : (ℕ → Bool) → List Event → Cell → List ℕ
 counted c H x = filter (λ w. c w && wrote H w x) (txns H)
 
@@ -76,7 +76,7 @@ module _ (S : Setup) (a : TreeFacts S) (H : List Event) (l : Lawful S H) (x : Ce
   pub counted_in : (c : ℕ → Bool) (w : ℕ) → In w (counted c H x) → (c w ≡ true) × (put_at H w x < length H)
   counted_in c w i = let p = and_parts _ _ (filter-In (λ w. c w && wrote H w x) w (txns H) i).1 in (p.0, wrote_put H w x p.1)
 
--- the history H, and what it was at position i
+-- the history H, and its prefix Q up to position i
 module _ (S : Setup) (a : TreeFacts S) (H : List Event) (l : Lawful S H) (i : ℕ) (h : i ≤ length H) (x : Cell) where
   abbrev Q : List Event
   Q = upto i H
@@ -84,7 +84,7 @@ module _ (S : Setup) (a : TreeFacts S) (H : List Event) (l : Lawful S H) (i : �
   pub lq : Lawful S Q
   lq = Lawful-upto S H i l
 
-  -- who was committed then
+  -- a transaction that is committed in Q committed before position i
   pub was_done : (w : ℕ) → committed Q w ≡ true → done_at H w < i
   was_done w c = ltb-true _ _ (sym (committed-upto H i w h) ∙ c)
 
@@ -101,11 +101,11 @@ module _ (S : Setup) (a : TreeFacts S) (H : List Event) (l : Lawful S H) (i : �
       let o = put_order S H w x l (omega arith) in
       (record { done = omega arith; put = omega arith }, omega arith, p)
 
-  -- the order of those who had put x is that of then
+  -- the order of a writer from before position i and a transaction begun before it is the same in H and in Q
   pub same_order : (u w : ℕ) → (began_at H u < i) × (put_at H u x < i) → began_at H w < i → u ≢ w → precedes S H x u w ≡ precedes S Q x u w
   same_order u w p q ne = sym (precedes-upto S a H i x u w l h p.0 q p.1 ne)
 
-  -- what they left is what they had left
+  -- a transaction that is committed in Q leaves the same value in H and in Q
   pub same_left : (w : ℕ) → committed Q w ≡ true → value_left H w x ≡ value_left Q w x
   same_left w c = ap (λ (o : Option (Option ℤ)). unwrap_or o None) (last_put-stable H i w x h (λ j e le lt is put.
       let d = was_done w c in
@@ -116,7 +116,7 @@ module _ (S : Setup) (a : TreeFacts S) (H : List Event) (l : Lawful S H) (i : �
   pub then_counted : (w : ℕ) → In w (counted (committed Q) Q x) → Wrote Q x w × (committed Q w ≡ true)
   then_counted w j = let p = counted_in S a Q lq x (committed Q) w j in (record { done = commits_from Q w p.0; put = p.1 }, p.0)
 
-  -- whom nobody followed then is the latest of some writers, if they are those of then and others who do not follow it
+  -- the latest writer m of Q is the latest of a list that has the writers of Q and otherwise only writers that m does not precede
   pub still_latest : (ws : List ℕ) → ((w : ℕ) → In w ws → Wrote H x w) → ((w : ℕ) → In w (counted (committed Q) Q x) → In w ws)
       → (m : ℕ) → latest S Q x (counted (committed Q) Q x) ≡ Some m
       → ((w : ℕ) → In w ws → In w (counted (committed Q) Q x) ⊎ (precedes S H x m w ≡ false)) → latest S H x ws ≡ Some m
@@ -134,12 +134,12 @@ module _ (S : Setup) (a : TreeFacts S) (H : List Event) (l : Lawful S H) (i : �
         | inr after ↦ after
       ])
 
-  -- if nobody was the latest then, nobody had put x
+  -- if Q has no latest writer of x, it has no committed writer of x
   pub nobody_then : latest S Q x (counted (committed Q) Q x) ≡ None → (w : ℕ) → In w (counted (committed Q) Q x) → ⊥
   nobody_then none w j = latest-none S Q x (counted (committed Q) Q x) w (λ b k. precedes_irreflexive S Q x b)
       (λ b c d k1 k2 k3. transitive S a Q lq x b c d (then_counted b k1).0 (then_counted c k2).0 (then_counted d k3).0) none j
 
-  -- who counts as committed then, and has put x by now, had put it then
+  -- a transaction that is committed in Q and has put x in H had put it in Q
   pub counts_then : (w : ℕ) → In w (counted (committed Q) H x) → In w (counted (committed Q) Q x)
   counts_then w j = let p = counted_in S a H l x (committed Q) w j in in_counted S a Q lq x (committed Q) w p.0 (then_wrote w p.0 p.1)
 
@@ -149,7 +149,7 @@ module _ (S : Setup) (a : TreeFacts S) (H : List Event) (l : Lawful S H) (i : �
   pub value_then : (X : Store) (m : ℕ) → latest S Q x (counted (committed Q) Q x) ≡ Some m → value_of X H x (Some m) ≡ value_of X Q x (Some m)
   value_then X m is = same_left m (then_counted m (latest-some S Q x (counted (committed Q) Q x) m is).0).1
 
-  -- of these alone, the latest is the one of then
+  -- among the writers committed in Q, the latest leaves the same value in H and in Q
   pub same_latest : (X : Store) → value_of X H x (latest S H x (counted (committed Q) H x)) ≡ value_of X Q x (latest S Q x (counted (committed Q) Q x))
   same_latest X = go (latest S Q x (counted (committed Q) Q x)) refl
     where

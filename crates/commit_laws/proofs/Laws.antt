@@ -1,4 +1,4 @@
--- The laws of the first commits.
+-- The laws of a history's first k commits.
 use Rattle.std.proofs.Common.{◌≡◌, ◌≤◌, ℕ, Bool, false, List, [], ◌∷◌, length, refl, sym, ap, subst, ◌∙◌, arith, le_refl, le-ltb, lt-ltb}
 use Rattle.teb_names.specs.declared.Cell.{Cell}
 use Rattle.teb_names.specs.Rows.{row_of}
@@ -26,7 +26,7 @@ use Rattle.commit_laws.proofs.OneCommit.{after_commit}
 use Rattle.commit_laws.proofs.Lookup.{record_at, records_push, changes_alike}
 use Rattle.commit_laws.proofs.Prefixes.{prefix_is, prefix_records, reads_prefix}
 
--- the table where the first k commits count is the final one of the history up to there
+-- the table in which only the first k commits count is the final table of the history up to the k-th commit
 pub rows_are_final : (X : Store) (a : TreeFacts X.setup) (H : List Event) → Lawful X.setup H → (k : ℕ) (x : Cell) → rows_after X H k x ≡ final_table X (up_to_commit k H) x
 unfolding rows_after final_table
 rows_are_final X a H l k x =
@@ -34,7 +34,7 @@ rows_are_final X a H l k x =
     subst (λ (Q : List Event). value_of X H x (latest X.setup H x (counted (committed Q) H x)) ≡ value_of X Q x (latest X.setup Q x (counted (committed Q) Q x))) (sym p.is)
     (same_latest X.setup a H l p.at p.within x X)
 
--- an event that is no commit commits nobody
+-- an event other than a Done commits no transaction
 not_done : (e : Event) (P : List Event) (w : ℕ) → is_done w e ≡ false → committed (e ∷ P) w ≡ committed P w
 unfolding committed done_at first_event
 not_done e P w f = elim (first_cases (newest (is_done w)) e P) [
@@ -43,7 +43,7 @@ not_done e P w f = elim (first_cases (newest (is_done w)) e P) [
   | later a b c ↦ le-ltb _ _ (omega arith) ∙ sym (le-ltb _ _ (omega arith))
 ]
 
--- and leaves the final table
+-- an event other than a Done does not change the final table
 same_table : (X : Store) (a : TreeFacts X.setup) (e : Event) (P : List Event) → Lawful X.setup (e ∷ P) → ((w : ℕ) → is_done w e ≡ false) → (x : Cell) → final_table X (e ∷ P) x ≡ final_table X P x
 unfolding final_table
 same_table X a e P l f x =
@@ -52,7 +52,7 @@ same_table X a e P l f x =
     (upto_cons (length P) e P (le_refl _) ∙ upto_all (length P) P (le_refl _))
     (same_latest X.setup a (e ∷ P) l (length P) (let z : length P ≤ length (e ∷ P) = omega arith in z) x X)
 
--- the records leave the final table
+-- applying the records to the starting rows gives the final table
 pub records_final : (X : Store) (a : TreeFacts X.setup) (H : List Event) → Lawful X.setup H → (x : Cell) → after_records (records_of X.setup H) (row_of X.rows) x ≡ final_table X H x
 unfolding records_of Lawful
 records_final X a [] l x = unfold final_table latest txns numbers begun_count in refl

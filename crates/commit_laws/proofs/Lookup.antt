@@ -1,4 +1,4 @@
--- What a record leaves in a cell.
+-- The value that a record leaves in a cell.
 use Rattle.std.proofs.Common.{◌≡◌, ℕ, Bool, true, false, cond, not, List, [], ◌∷◌, ◌++◌, Option, Some, None, ℤ, refl, sym, ap, ◌∙◌, unwrap_or, filter}
 use Rattle.std.specs.Option.{option_or}
 use Rattle.teb_names.specs.declared.Cell.{Cell}
@@ -15,7 +15,7 @@ use Rattle.record_journal.specs.Format.{Record}
 use Rattle.record_journal.specs.Journal.{after_changes, after_records}
 use Rattle.commit_laws.specs.Records.{last_puts, is_newest, record_of}
 
--- the last change of a cell
+-- the last change of a cell in a record
 abbrev pub lookup : Record → Cell → Option (Option ℤ)
 lookup [] x = None
 lookup (c ∷ cs) x = option_or (lookup cs x) (cond (same_cell c.cell x) (Some c.value) None)
@@ -29,11 +29,11 @@ changes_at (c ∷ cs) T x = changes_at cs (put_in c.cell c.value T) x ∙ go (lo
     go None true = refl
     go None false = refl
 
--- only the table's own value in the cell matters
+-- the value in a cell afterwards depends only on the table's value in that cell
 pub changes_alike : (r : Record) (T U : Values) (x : Cell) → T x ≡ U x → after_changes r T x ≡ after_changes r U x
 changes_alike r T U x same = changes_at r T x ∙ ap (λ (v : Option ℤ). unwrap_or (lookup r x) v) same ∙ sym (changes_at r U x)
 
--- of the changes of some cells
+-- a lookup among the changes of selected cells
 pub lookup_filter : (p : Cell → Bool) (cs : Record) (x : Cell) → lookup (filter (λ c. p c.cell) cs) x ≡ cond (p x) (lookup cs x) None
 lookup_filter p [] x = go (p x)
   where
@@ -86,7 +86,7 @@ lookup_puts (Done t ∷ es) x = lookup_puts es x
 lookup_puts (Gone t c ∷ es) x = lookup_puts es x
 lookup_puts (Told t ∷ es) x = lookup_puts es x
 
--- the record of t leaves what t put last, if no committed version follows it
+-- the record of t leaves t's last put, if no committed version follows it
 pub record_at : (S : Setup) (H : List Event) (t : ℕ) (T : Values) (x : Cell) → after_changes (record_of S H t) T x ≡ unwrap_or (cond (is_newest S H t x) (last_put H t x) None) (T x)
 record_at S H t T x =
     changes_at (record_of S H t) T x

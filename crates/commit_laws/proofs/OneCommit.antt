@@ -1,4 +1,4 @@
--- What one more commit leaves.
+-- The effect of one more commit on the final table.
 use Rattle.std.proofs.Common.{◌≡◌, ◌≢◌, ◌⊎◌, ◌<◌, ◌≤◌, ℕ, suc, Bool, true, false, cond, not, ◌&&◌, List, [], ◌∷◌, Option, Some, None, ℤ, refl, sym, ap, subst, ◌∙◌, arith, inl, inr, length, unwrap_or, lt-ltb, le-ltb, ltb-true, ltb-false, eqb-true, le_refl}
 use Rattle.std.specs.List.{list_all}
 use Rattle.std.proofs.lemmas.Bool.{eq-eqb, both_ways, cases_eq, cases_lt, and_from, and_parts, not-true, not-false, false_from_ne_true}
@@ -24,7 +24,7 @@ use Rattle.teb_laws.proofs.VersionOrder.{precedes_irreflexive}
 use Rattle.commit_laws.specs.Records.{is_newest}
 use Rattle.commit_laws.proofs.Latest.{counted, Wrote, latest_is, latest_nobody, writers_ordered_by, transitive, in_counted, counted_in, was_done, then_wrote, now_wrote, same_order, then_counted, still_latest, nobody_then, value_then}
 
--- one of a list does not pass, if not all do
+-- if not all elements pass, one of them fails
 not_all : (p : ℕ → Bool) (us : List ℕ) → list_all p us ≡ false → (u : ℕ) × In u us × (p u ≡ false)
 not_all p [] h = absurd (cc)
 not_all p (v ∷ vs) h = go (p v) refl h (not_all p vs)
@@ -33,7 +33,7 @@ not_all p (v ∷ vs) h = go (p v) refl h (not_all p vs)
     go true e k rest = let r = rest k in (r.0, inr r.1, r.2)
     go false e k rest = (v, inl refl, e)
 
--- who is committed with this Done was so before, or it is its own
+-- a transaction that is committed after this Done is the one that commits, or was committed before
 committed_by : (t : Txn) (P : List Event) (w : ℕ) → committed (Done t ∷ P) w ≡ true → (w ≡ t.0) ⊎ (committed P w ≡ true)
 unfolding committed done_at first_event
 committed_by t P w h = elim (first_cases (newest (is_done w)) (Done t) P) [
@@ -112,7 +112,7 @@ module _ (X : Store) (a : TreeFacts X.setup) (t : Txn) (P : List Event) (l : Law
   own_wrote : wrote Q t.0 x ≡ true → put_at H t.0 x < i
   own_wrote r = ltb-true _ _ (sym (wrote-upto H i t.0 x h) ∙ r)
 
-  -- somebody's version follows t's
+  -- if t's version is not the newest, a committed version follows it
   followed : is_newest S Q t.0 x ≡ false → (w : ℕ) × In w (counted (committed Q) Q x) × (precedes S Q x t.0 w ≡ true)
   unfolding is_newest
   followed f =
@@ -124,7 +124,7 @@ module _ (X : Store) (a : TreeFacts X.setup) (t : Txn) (P : List Event) (l : Law
       In-both : (w : ℕ) → In w (txns Q) → (committed Q w && wrote Q w x) ≡ true → In w (counted (committed Q) Q x)
       In-both w j e = In-filter (λ w. committed Q w && wrote Q w x) w (txns Q) j e
 
-  -- t's version is the latest
+  -- if t's version is the newest, t is the latest writer
   newest_left : wrote Q t.0 x ≡ true → is_newest S Q t.0 x ≡ true → latest S H x (counted (committed H) H x) ≡ Some t.0
   newest_left r f =
       let p = own_wrote r in
@@ -146,7 +146,7 @@ module _ (X : Store) (a : TreeFacts X.setup) (t : Txn) (P : List Event) (l : Law
           let y = list_all_at (λ w. not (committed Q w && wrote Q w x && precedes S Q x t.0 w)) (txns Q) u (unfold is_newest in f) z.0 in
           false_from_ne_true _ (λ q. both_ways _ (not-true _ y) (and_from _ _ z.1 q))
 
-  -- the last one before is still the latest, where t's version is not, or there is none
+  -- the latest writer before is still the latest if it does not precede t, or t has no version of x
   others_left : (m : ℕ) → latest S Q x (counted (committed Q) Q x) ≡ Some m → (put_at H t.0 x < length H → precedes S H x m t.0 ≡ false) → latest S H x (counted (committed H) H x) ≡ Some m
   others_left m is beside = still_latest S a H l i h x (counted (committed H) H x) (λ w j. (of_now w j).0) of_then m is (λ w j. elim (of_now w j).1 [
     | inl e ↦ inr (subst (λ (z : ℕ). precedes S H x m z ≡ false) (sym e) (beside (subst (λ (z : ℕ). put_at H z x < length H) e (of_now w j).0.put)))
@@ -159,7 +159,7 @@ module _ (X : Store) (a : TreeFacts X.setup) (t : Txn) (P : List Event) (l : Law
     | inr k ↦ nobody_then S a H l i h x none w k
   ])
 
-  -- whom nobody follows does not precede t, if somebody follows t
+  -- if a committed version follows t's, the latest writer before does not precede t
   not_behind : (m w : ℕ) → latest S Q x (counted (committed Q) Q x) ≡ Some m → put_at H t.0 x < i → In w (counted (committed Q) Q x) → precedes S Q x t.0 w ≡ true → precedes S H x m t.0 ≡ false
   not_behind m w is p j ahead =
       let top = latest-some S Q x (counted (committed Q) Q x) m is in
@@ -177,7 +177,7 @@ module _ (X : Store) (a : TreeFacts X.setup) (t : Txn) (P : List Event) (l : Law
         | inr apart ↦ both_ways _ (same_order S a H l i h x m w (nm.1, nm.2) nw.1 apart ∙ top.1 w j) to_w
       ])
 
-  -- what t put last of x, if no committed version follows it
+  -- t's last put of x, if no committed version follows it
   abbrev pub left_by_it : Option (Option ℤ)
   left_by_it = cond (is_newest S Q t.0 x) (last_put Q t.0 x) None
 
@@ -221,6 +221,6 @@ module _ (X : Store) (a : TreeFacts X.setup) (t : Txn) (P : List Event) (l : Law
   pub one_commit : final_table X H x ≡ unwrap_or left_by_it (final_table X Q x)
   one_commit = by_case (wrote Q t.0 x) refl (is_newest S Q t.0 x) refl
 
-  -- the same, of the history before
+  -- the same, stated with the history before the commit
   pub after_commit : final_table X H x ≡ unwrap_or (cond (is_newest S P t.0 x) (last_put P t.0 x) None) (final_table X P x)
   after_commit = one_commit ∙ ap (λ (R : List Event). unwrap_or (cond (is_newest S R t.0 x) (last_put R t.0 x) None) (final_table X R x)) was

@@ -12,7 +12,7 @@ use Rattle.teb_laws.proofs.Positions.{upto_all, upto_cons}
 use Rattle.commit_laws.specs.Commits.{commit_count, up_to_commit}
 use Rattle.commit_laws.specs.Records.{record_of, records_of}
 
--- it is the history up to a position
+-- `up_to_commit` k H is H up to some position
 pub record IsPrefix (k : ℕ) (H : List Event) : Type 0 where
   pub at : ℕ
   pub within : at ≤ length H
@@ -74,7 +74,7 @@ prefix_records S k (Ready t ∷ P) = prefix_records S k P
 prefix_records S k (Gone t c ∷ P) = prefix_records S k P
 prefix_records S k (Told t ∷ P) = prefix_records S k P
 
--- what is read from the starting rows in a history is so in its first part
+-- if the reads from starting rows are right in a history, they are right in its prefix
 pub reads_prefix : (R : List (Cell × ℤ)) (k : ℕ) (H : List Event) → ReadsRows R H → ReadsRows R (up_to_commit k H)
 unfolding ReadsRows up_to_commit
 reads_prefix R k [] r = r

@@ -1,4 +1,4 @@
--- How long the journal of a history is.
+-- The length of the journal of a history.
 use Rattle.std.proofs.Common.{◌≡◌, ◌≤◌, ◌+◌, ◌*◌, ℕ, zero, suc, Bool, true, false, cond, not, eqb, ◌&&◌, ◌||◌, List, [], ◌∷◌, ◌++◌, length, filter, refl, sym, ap, subst, ◌∙◌, arith}
 use Rattle.std.proofs.lemmas.Bool.{both_ways, eq-eqb, eqb-true}
 use Rattle.teb_names.specs.Cells.{same_cell}
@@ -22,7 +22,7 @@ length-filter-le p (x ∷ xs) = go (p x) (length-filter-le p xs)
     go true ih = omega (arith, ih)
     go false ih = omega (arith, ih)
 
--- how many puts are of the transactions that p names
+-- the number of puts of the transactions that p selects
 abbrev puts_by : (ℕ → Bool) → List Event → ℕ
 puts_by p [] = zero
 puts_by p (Put t x v ∷ P) = let n = puts_by p P in cond (p t.0) (suc n) n
@@ -33,7 +33,7 @@ puts_by p (Done t ∷ P) = puts_by p P
 puts_by p (Gone t c ∷ P) = puts_by p P
 puts_by p (Told t ∷ P) = puts_by p P
 
--- no more cells than puts
+-- there are no more last puts than puts
 few_last : (es : List Event) → length (last_puts es) ≤ put_count es
 unfolding last_puts put_count
 few_last [] = omega arith
@@ -89,7 +89,7 @@ few_puts : (P : List Event) (t : ℕ) → length (puts_of P t) ≤ puts_by (λ u
 unfolding own_events
 few_puts P t = omega (arith, few_last (filter (is_of t) P), own_puts P t)
 
--- those of two sets that are apart
+-- the puts of two disjoint sets of transactions add up
 joined : (p q : ℕ → Bool) → ((u : ℕ) → p u ≡ true → q u ≡ false) → (P : List Event) → puts_by p P + puts_by q P ≡ puts_by (λ u. p u || q u) P
 joined p q apart [] = refl
 joined p q apart (Put t x v ∷ P) = go (p t.0) (q t.0) refl refl (joined p q apart P)
@@ -107,7 +107,7 @@ joined p q apart (Done t ∷ P) = joined p q apart P
 joined p q apart (Gone t c ∷ P) = joined p q apart P
 joined p q apart (Told t ∷ P) = joined p q apart P
 
--- p names nobody who is committed
+-- p selects no committed transaction
 abbrev AreLive : (ℕ → Bool) → List Event → Type 0
 AreLive p P = (u : ℕ) → p u ≡ true → committed P u ≡ false
 
@@ -130,7 +130,7 @@ not_committed P t h = go (begun P t) (committed P t) (aborted P t) h
 abbrev IsShort : Setup → List Event → (ℕ → Bool) → Type 0
 IsShort S P p = length (records (records_of S P)) + 14 * puts_by p P ≤ 5 * commit_count P + 14 * put_count P
 
--- a commit takes its puts
+-- a commit uses the room that is counted for its transaction's puts
 short_commit : (S : Setup) (P : List Event) (t : ℕ) (p : ℕ → Bool) → ((u : ℕ) → p u ≡ true → eqb u t ≡ false) → IsShort S P (λ u. p u || eqb u t)
     → length (records (records_of S P ++ record_of S P t ∷ [])) + 14 * puts_by p P ≤ 5 * suc (commit_count P) + 14 * put_count P
 short_commit S P t p apart ih =
@@ -169,11 +169,11 @@ short S (Ready t ∷ P) l p live = short S P l.1 p (were_live p (Ready t) P live
 short S (Gone t c ∷ P) l p live = short S P l.1 p (were_live p (Gone t c) P live)
 short S (Told t ∷ P) l p live = short S P l.1 p (were_live p (Told t) P live)
 
--- a journal has five bytes at most for each commit and fourteen for each put
+-- the journal has at most 5 bytes for each commit and 14 for each put
 pub journal_length : (S : Setup) (H : List Event) → Lawful S H → length (records (records_of S H)) ≤ 5 * commit_count H + 14 * put_count H
 journal_length S H l = omega (arith, short S H l (λ u. false) (λ u h. absurd (cc)))
 
--- and there is room for what an unfinished transaction put
+-- the bound leaves room for the puts of an unfinished transaction
 pub journal_room : (S : Setup) (H : List Event) → Lawful S H → (t : ℕ) → unfinished H t ≡ true → length (records (records_of S H)) + 14 * length (puts_of H t) ≤ 5 * commit_count H + 14 * put_count H
 journal_room S H l t u =
     omega (arith, few_puts H t, short S H l (λ w. eqb w t) (λ w e. subst (λ (z : ℕ). committed H z ≡ false) (sym (eqb-true w t e)) (not_committed H t u)))

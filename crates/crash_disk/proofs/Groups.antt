@@ -1,4 +1,4 @@
--- Calls, one after the other.
+-- Groups of calls, one after the other.
 use Rattle.std.proofs.Common.{◌≡◌, ℕ, ◌+◌, ◌≤◌, refl, sym, ◌∙◌, ap, subst, inl, inr, arith, Result, Ok, Err}
 use Rattle.std.specs.Prelude.{IsOk, IsErr}
 use Rattle.teb_io.specs.Faults.{next}
@@ -9,7 +9,7 @@ before_fewer : (stop n m : ℕ) → IsBefore stop n → m ≤ n → IsBefore sto
 before_fewer stop n m (inl none) le = inl none
 before_fewer stop n m (inr low) le = inr (omega arith)
 
--- ---- a disk in memory
+-- ---- one call of a disk in memory
 
 pub call_ok : {T E : Type 0} (most made made' written written' stop stop' n : ℕ) (room room' : Room) (v : T) → room' ≡ room → made' ≡ next made → stop' ≡ stop → written' ≤ written + n
     → (IsFrom stop (next made) → ⊥) → AreCalls {E = E} most 1 n (memory_tally made written stop room) (memory_tally made' written' stop' room') (Ok v)
@@ -20,7 +20,7 @@ call_ok most made made' written written' stop stop' n room room' v roomy is same
   fails = λ f. let small = f.small in absurd (never (f.from.0, omega (arith, f.from.1)));
 }
 
--- ---- two groups
+-- ---- two groups of calls
 
 pub up_to_then : (k n k' n' : ℕ) (a b c : Tally) → IsUpTo k n a b → IsUpTo k' n' b c → IsUpTo (k + k') (n + n') a c
 up_to_then k n k' n' a b c one two = record { made = omega (arith, one.made, two.made); written = omega (arith, one.written, two.written); promise = two.promise ∙ one.promise }
@@ -46,7 +46,7 @@ not_both : {T E : Type 0} (r : Result T E) → IsOk r → IsErr r → ⊥
 not_both (Ok v) a b = absurd (cc)
 not_both (Err e) a b = absurd (cc)
 
--- the first group stopped, and so there was no second one
+-- the first group stopped, so there was no second one
 pub cut : {T E U F : Type 0} (most k n k' n' : ℕ) (a b : Tally) (r : Result T E) (e : F) → AreCalls most k n a b r → IsErr r → AreCalls {T = U} most (k + k') (n + n') a b (Err e)
 cut most k n k' n' a b r e one failed = record {
   up_to = up_to_more k n k' n' a b one.up_to;
@@ -61,7 +61,7 @@ fails_then k n k' a b one all f = record {
   small = omega (arith, f.small, all);
 }
 
--- the first group went through, and the second one too, or it stopped
+-- the first group succeeded, and the second succeeded or stopped
 pub then_ok : {T E U F : Type 0} (most k n k' n' : ℕ) (a b c : Tally) (v : T) (w : U) → AreCalls {E = E} most k n a b (Ok v) → AreCalls {E = F} most k' n' b c (Ok w)
     → AreCalls {E = F} most (k + k') (n + n') a c (Ok w)
 then_ok most k n k' n' a b c v w one two = record {
@@ -80,6 +80,6 @@ then_err most k n k' n' a b c v e one two = record {
   fails = λ f. refl;
 }
 
--- what is promised stays, so that a group may be told by what was promised before
+-- the promise does not change, so a group may be stated with the promise before it
 pub as_before : {T E : Type 0} (most most' k n : ℕ) (a b : Tally) (r : Result T E) → most' ≡ most → AreCalls most' k n a b r → AreCalls most k n a b r
 as_before most most' k n a b r is = subst (λ (m : ℕ). AreCalls m k n a b r) is

@@ -1,4 +1,4 @@
--- What one more step does to a log.
+-- What one more step changes in a log.
 use Rattle.std.specs.Prelude.{IsTrue, ◌↔◌}
 use Rattle.std.proofs.Common.{Bool, true, false, replicate, slice_get, zero, Some, None, ◌≡◌, ◌⊎◌, inl, inr, ℕ, ◌+◌, ◌-◌, ◌<◌, ◌≤◌, max, List, [], ◌∷◌, ◌++◌, length, get_or, take, drop, refl, sym, ◌∙◌, ap, subst, arith, length-append, length-drop, suc, take-append-drop}
 use Rattle.std.proofs.lemmas.List.{get_or-take, get_or-drop, get_or_append_left, get_or-append_right, length-take-le, take-append-le, drop-append-le, take_all, drop_all, append-nil, length-replicate}
@@ -127,7 +127,7 @@ module _ (at : ℕ) (piece m : List ℕ) where
   pub write_holds : Holds at piece now
   write_holds = record { within = λ i lt. omega (arith, lt, length-written); each = middle }
 
--- ---- what the calls of a disk promise, of a log
+-- ---- what the calls of a disk promise, stated of a log
 
 module _ (xs ys : List Step) where
   pub write_crash : (at : ℕ) (piece : List ℕ) → ys ≡ xs ++ Wrote at piece ∷ [] → IsTorn at (length piece) (contents xs) (contents ys) → Follows (IsTorn at (length piece)) (MayLeave xs) (MayLeave ys)
@@ -154,7 +154,7 @@ module _ (xs ys : List Step) where
 pub told_write : (xs ys : List Step) (at : ℕ) (all all' piece : List ℕ) → ys ≡ xs ++ Wrote at piece ∷ [] → contents xs ≡ all → all' ≡ written at piece all → contents ys ≡ all'
 told_write xs ys at all all' piece is told is-all = ap contents is ∙ after_steps-push [] xs (Wrote at piece) ∙ ap (written at piece) told ∙ sym is-all
 
--- the bytes after a write, of a log
+-- the bytes after a write to a log
 wrote_contents : (xs ys : List Step) (at : ℕ) (piece : List ℕ) → ys ≡ xs ++ Wrote at piece ∷ [] → contents ys ≡ written at piece (contents xs)
 wrote_contents xs ys at piece is = ap contents is ∙ after_steps-push [] xs (Wrote at piece)
 
@@ -172,7 +172,7 @@ joined_write cs cs' bytes bytes' piece at whole is-cs is-bytes =
 pub joined_sync : (cs cs' : List Call) (bytes : List ℕ) → cs' ≡ cs ++ call.Sync ∷ [] → steps cs' bytes ≡ steps cs bytes ++ Synced ∷ []
 joined_sync cs cs' bytes is = ap (λ (l : List Call). steps l bytes) is ∙ steps-sync cs bytes
 
--- ---- what is safe
+-- ---- the safe bytes
 
 synced-push : (kept m : List ℕ) (xs : List Step) → synced_bytes kept m (xs ++ Synced ∷ []) ≡ after_steps m xs
 synced-push kept m [] = refl
@@ -190,7 +190,7 @@ safe_sync xs ys is = ap safe_contents is ∙ synced-push [] [] xs
 pub safe_write : (xs ys : List Step) (at : ℕ) (piece : List ℕ) → ys ≡ xs ++ Wrote at piece ∷ [] → safe_contents ys ≡ safe_contents xs
 safe_write xs ys at piece is = ap safe_contents is ∙ unsynced-push [] [] xs at piece
 
--- ---- how long a log is
+-- ---- the length of a log
 
 pub length-steps : (cs : List Call) (bytes : List ℕ) → length (steps cs bytes) ≡ length cs
 length-steps [] bytes = refl
@@ -244,7 +244,7 @@ pub ended_only : (xs : List Step) → EndsSynced xs → (c : List ℕ) → MayLe
 ended_only xs (inl none) c left = subst (λ (l : List Step). MayLeave l c) none left ∙ sym (ap safe_contents none)
 ended_only xs (inr last) c left = sync_only last.0 xs last.1 c left ∙ sym (safe_sync last.0 xs last.1)
 
--- ---- the writes once more
+-- ---- the writes, by their calls and bytes
 
 pub sizes : (cs : List Call) (bytes : List ℕ) (xs : List Step) → steps cs bytes ≡ xs → total cs ≡ length bytes → (length xs ≡ length cs) × (byte_count xs ≡ length bytes)
 sizes cs bytes xs is counted = (ap length (sym is) ∙ length-steps cs bytes, ap byte_count (sym is) ∙ count-steps cs bytes (omega arith) ∙ counted)
@@ -303,7 +303,7 @@ replayed at size image rest image' rest' piece ds target told is-piece is-rest i
     ∙ ap (λ (p : List ℕ). after_steps (written at p image) (steps ds (drop size rest))) is-piece
     ∙ told
 
--- the bytes never get fewer, and each write ends within those of the end
+-- the length never decreases, and each write ends within the bytes at the end
 pub no_shorter : (m : List ℕ) (xs : List Step) → length m ≤ length (after_steps m xs)
 no_shorter m [] = omega arith
 no_shorter m (Wrote at piece ∷ xs) = omega (arith, length-written at piece m, no_shorter (written at piece m) xs)
@@ -328,13 +328,13 @@ none_left bytes =
     let all : 0 + length bytes - 0 ≡ 0 + length bytes = omega arith in
     length-replicate (0 + length bytes - 0) none ∙ all
 
--- a disk with one write, of all of its bytes, and a sync
+-- a disk that was written once, whole, and synced
 pub filled : (bytes : List ℕ) → contents (Wrote 0 bytes ∷ Synced ∷ []) ≡ bytes
 filled bytes =
     ap (λ (l : List ℕ). bytes ++ l) (drop_all (0 + length bytes) (padded (0 + length bytes) []) (omega (arith, none_left bytes)))
     ∙ append-nil bytes
 
--- ---- how much a log may hold
+-- ---- the room of a log
 
 pub has_room : (r : Room) (b : Bool) (calls bytes : ℕ) → (IsTrue b ↔ MayHold r calls bytes) → b ≡ false → r ≡ Reserved → calls ≤ reserved_calls → bytes ≤ reserved_bytes → ⊥
 has_room r b calls bytes holds refused is few few_bytes = absurd (cc (refused, holds.1 (subst (λ (q : Room). MayHold q calls bytes) (sym is) (few, few_bytes))))

@@ -11,7 +11,7 @@ total_back [] (suc p) = omega arith
 total_back (call.Write at n ∷ cs) (suc p) = omega (arith, total_back cs p)
 total_back (call.Sync ∷ cs) (suc p) = total_back cs p
 
--- the bytes from the write at a place on, of which the later writes have so many
+-- the bytes of the writes from place p on, which are the last ones
 abbrev pub back : List Call → List ℕ → ℕ → List ℕ
 back cs bytes p = drop (length bytes - total (drop p cs)) bytes
 

@@ -1,4 +1,4 @@
--- Memory for calls, one after the other.
+-- Memory for calls that come one after the other.
 use Rattle.std.proofs.Common.{◌≡◌, ℕ, ◌+◌, ◌-◌, ◌≤◌, max, refl, ap, ◌∙◌, arith}
 use Rattle.crash_disk.specs.declared.room.Room.{Room}
 use Rattle.crash_disk.specs.declared.room.Room.TheVariants.{Reserved, Growing}
@@ -31,7 +31,7 @@ pub raised_covers : (r : Room) (n used has more : ℕ) → used + n ≤ max has 
 raised_covers Reserved n used has more wide fits = omega (arith, fits refl)
 raised_covers Growing n used has more wide fits = omega (arith, wide)
 
--- nothing was used
+-- if nothing was used, the spare is unchanged
 pub uses_none : (k n e : ℕ) (a b : Spare) (x y : ℕ) → b ≡ a → y ≡ x → UsesUp k n e a b x y
 uses_none k n e a b x y is same = record {
   calls = omega (arith, ap (λ (s : Spare). s.calls) is);

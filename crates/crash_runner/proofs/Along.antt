@@ -1,4 +1,4 @@
--- Runs on a disk, along a list of requests.
+-- Runs on a disk along a list of requests.
 use Rattle.std.proofs.Common.{◌≡◌, ◌<◌, ◌≤◌, ◌+◌, ℕ, zero, suc, List, [], ◌∷◌, ◌++◌, length, map, take, drop, get_or, refl, sym, ◌∙◌, ap, ap₂, subst, append_assoc, arith}
 use Rattle.std.proofs.lemmas.List.{append-nil, take_more, map_push}
 use Rattle.teb_names.specs.declared.Session.{Session}
@@ -30,7 +30,7 @@ asked_then X xs ys log mid now H K L one two = record {
   events = two.events ∙ ap (λ (J : List Event). history_after X J ys) one.events ∙ sym (history_append X H xs ys);
 }
 
--- a stop behind some requests is one of all
+-- a run that stops within the later requests stops within all of them
 pub stops_behind : (p : Promise) (X : Store) (xs ys all : Requests) (log mid given : List Answered) (H K : List Event) (t : Tally) (safe : List ℕ) → all ≡ xs ++ ys → HasAsked X xs log H mid K
     → StopsAt p X (mid ++ log_of X K ys) (history_after X K ys) given t safe → StopsAt p X (log ++ log_of X H all) (history_after X H all) given t safe
 stops_behind p X xs ys all log mid given H K t safe is one stops =
@@ -39,7 +39,7 @@ stops_behind p X xs ys all log mid given H K t safe is one stops =
     (subst (λ (J : List Event). StopsAt p X (log ++ log_of X H (xs ++ ys)) J given t safe) whole.events
     (subst (λ (w : List Answered). StopsAt p X w (history_after X K ys) given t safe) whole.replies stops))
 
--- ---- a list, of which one place has been reached
+-- ---- a list, up to one of its elements
 
 pub split_at : {A B : Type 0} (f : A → B) (xs : List A) (i : ℕ) (d : A) (rest : List B) → i < length xs → map f xs ++ rest ≡ map f (take i xs) ++ f (get_or xs i d) ∷ (map f (drop (i + 1) xs) ++ rest)
 split_at f [] i d rest lt = absurd (omega arith)
@@ -53,14 +53,14 @@ more_of f xs i d lt = ap (map f) (take_more xs i d lt) ∙ map_push f (take i xs
 
 module _ {A : Type 0} (f : A → Session × Request) (xs : List A) (i : ℕ) (d : A) (lt : i < length xs) (a : Session × Request) (is : a ≡ f (get_or xs i d)) (X Y : Store) (same : Y ≡ X)
     (log mid : List Answered) (H K : List Event) (so_far : HasAsked X (map f (take i xs)) log H mid K) where
-  -- one request more was answered
+  -- one more request was answered
   pub one_more : (now : List Answered) (L : List Event) → HasAsked Y (a ∷ []) mid K now L → HasAsked X (map f (take (i + 1) xs)) log H now L
   one_more now L one =
       let here : HasAsked X (f (get_or xs i d) ∷ []) mid K now L = subst (λ (b : Session × Request). HasAsked X (b ∷ []) mid K now L) is
       (subst (λ (Z : Store). HasAsked Z (a ∷ []) mid K now L) same one) in
       subst (λ (rs : Requests). HasAsked X rs log H now L) (sym (more_of f xs i d lt)) (asked_then X (map f (take i xs)) (f (get_or xs i d) ∷ []) log mid now H K L so_far here)
 
-  -- the run stopped at it
+  -- the run stopped at this request
   pub stopped_at : (p q : Promise) (rest : Requests) (given : List Answered) (t : Tally) (safe : List ℕ) → q ≡ p → StopsAt q Y (mid ++ log_of Y K (a ∷ (map f (drop (i + 1) xs) ++ rest)))
       (history_after Y K (a ∷ (map f (drop (i + 1) xs) ++ rest))) given t safe
       → StopsAt p X (log ++ log_of X H (map f xs ++ rest)) (history_after X H (map f xs ++ rest)) given t safe
@@ -71,7 +71,7 @@ module _ {A : Type 0} (f : A → Session × Request) (xs : List A) (i : ℕ) (d 
       let here = subst (λ (b : Session × Request). StopsAt p X (mid ++ log_of X K (b ∷ behind)) (history_after X K (b ∷ behind)) given t safe) is of_x in
       stops_behind p X (map f (take i xs)) (f (get_or xs i d) ∷ behind) (map f xs ++ rest) log mid given H K t safe (split_at f xs i d rest lt) so_far here
 
--- ---- the lines, and then the Ends
+-- ---- the lines, then the Ends
 
 module _ (X : Store) (lines : List Line) (mid : List Answered) (K : List Event) (asked : HasAsked X (requests_of lines) [] [] mid K) where
   ends : ends_of K ≡ ends_of (history_after X [] (requests_of lines))

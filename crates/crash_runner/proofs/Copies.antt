@@ -1,4 +1,4 @@
--- Names, copied one after the other.
+-- Names are copied one at a time.
 use Rattle.std.proofs.Common.{◌≡◌, ℕ, zero, suc, ◌+◌, ◌<◌, Bool, false, not, ◌||◌, if◌then◌else◌, List, [], ◌∷◌, ◌++◌, Some, length, get_or, take, slice_get, refl, sym, ◌∙◌, ap, ap₂, arith}
 use Rattle.std.specs.List.{list_any}
 use Rattle.std.specs.Str.{bytes_eq}
@@ -12,7 +12,7 @@ none_before p xs zero d h lt = refl
 none_before p [] (suc i) d h lt = absurd (omega arith)
 none_before p (x ∷ xs) (suc i) d h lt = ap₂ (λ (a b : Bool). a || b) (h zero (omega arith)) (none_before p xs i d (λ k low. h (suc k) (omega arith)) (omega arith))
 
--- the first names, and the next one behind them
+-- the first i names with the next one appended are the first i + 1
 pub copied_more : (names old new : List (List ℕ)) (i : ℕ) (name : List ℕ) (added : Bool) → old ≡ take i names → slice_get names i ≡ Some name → number_of names name ≡ Some i
     → added ≡ not (has old name)
     → new ≡ (if added then old ++ name ∷ [] else old) → new ≡ take (i + 1) names

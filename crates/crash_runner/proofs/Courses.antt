@@ -1,4 +1,4 @@
--- What a run on a disk comes to.
+-- The result of a run on a disk.
 use Rattle.std.proofs.Common.{◌≡◌, ◌≤◌, ◌<◌, ◌+◌, ◌-◌, ◌/◌, ℕ, suc, Bool, true, false, List, [], ◌∷◌, ◌++◌, length, take, refl, sym, ◌∙◌, ap, subst, arith, append_assoc, length-append, ℤ}
 use Rattle.std.proofs.lemmas.List.{take_all, take_at, append-nil, length-take}
 use Rattle.teb_names.specs.declared.Cell.{Cell}
@@ -33,7 +33,7 @@ use Rattle.crash_runner.specs.Crashes.{calls_of, Through, AtOnce, AtCommit, AreR
 use Rattle.crash_runner.specs.Underway.{HasRoom, IsUnderway, HasAsked, StopsAt, IsRunOn}
 use Rattle.crash_runner.proofs.Steps.{lawful_of}
 
--- ---- the records of a history are the first of any that follows it
+-- ---- the records of a history are the first ones of any later history
 
 record AreMore (rs qs : List Record) : Type 0 where
   more : List Record
@@ -59,7 +59,7 @@ first_records X asked H =
     let m = records_more X asked H in
     sym (ap (take (commit_count H)) m.is ∙ take_at (records_of X.setup H) m.more (commit_count H) (length-records X.setup H))
 
--- a commit that a history grants is counted in any that follows it
+-- a later history has at least as many commits
 commits_more : (X : Store) (asked : Requests) (H : List Event) → commit_count H ≤ commit_count (history_after X H asked)
 commits_more X asked H =
     let m = records_more X asked H in
@@ -129,7 +129,7 @@ never_began stop X lines t safe some low none room = record {
   room = room;
 }
 
--- ---- the rows that are recovered
+-- ---- the recovered rows
 
 module _ (stop : ℕ) (X : Store) (lines : List Line) (given : List Answered) (stopped : Bool) (t : Tally) (safe : List ℕ) (run : IsRunOn stop X lines given stopped t safe) (sound : IsSound X.setup)
     (rows : List (Cell × ℤ)) (after : (x : Cell) → row_of rows x ≡ after_records (records_of X.setup run.before) (row_of X.rows) x) (ascending : IsAscending rows) where
@@ -151,7 +151,7 @@ module _ (stop : ℕ) (X : Store) (lines : List Line) (given : List Answered) (s
         each = λ x. after x ∙ ap (λ (rs : List Record). after_records rs (row_of X.rows) x) run.first ∙ records_leave_the_rows X H sound lawful (commit_count run.before) few x;
       }
 
-  -- they are also the final ones of the history whose records they are
+  -- they are also the final rows of `run.before`, the history whose records were recovered
   pub rows_are_final : IsFinalRows X run.before rows
   rows_are_final = record {
     ascending = ascending;

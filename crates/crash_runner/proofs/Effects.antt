@@ -1,4 +1,4 @@
--- What an answer adds to a history: one commit or put at most, and an End none.
+-- An answer adds at most one commit or put to a history, and the answer to an End adds none.
 use Rattle.std.proofs.Common.{◌≡◌, ◌≤◌, ◌+◌, ℕ, Bool, true, false, cond, not, ◌&&◌, leb, ltb, is_none, List, [], ◌∷◌, Option, Some, None, refl, ap, arith, unwrap_or, ℤ, ◌+ℤ◌}
 use Rattle.teb_names.specs.declared.TheConstants.{MOST_TXNS, SESSIONS}
 use Rattle.teb_names.specs.declared.Session.{Session}
@@ -43,7 +43,7 @@ unfolding commit_count put_count read_all
 effects_read X t [] H = refl
 effects_read X t (x ∷ xs) H = let r = read X.setup X.rows H t x in effects_read X t xs (Got (txn t) x (txn r.0) r.1 ∷ H)
 
--- an answer that adds n at most
+-- the answer adds at most n commits and puts
 abbrev AddsUpTo : ℕ → List Event → Answered → Type 0
 AddsUpTo n H x = effects x.1 ≤ n + effects H
 

@@ -29,7 +29,7 @@ not_ok_and_err {T = T} {E = E} r v is f = never_fails r (subst (λ (q : Result T
 pub not_err_and_ok : {T E : Type 0} (r : Result T E) (e : E) → r ≡ Err e → IsOk r → ⊥
 not_err_and_ok {T = T} {E = E} r e is f = never_fails r f (subst (λ (q : Result T E). IsErr q) (sym is) refl)
 
--- an error that is handed on holds of what held
+-- a property of an error holds for the error that is passed on
 pub halted : {T : Type 0} (r : Result T Halt) (h k : Halt) (P : Halt → Type 0) → r ≡ Err h → h ≡ k → P k → IfErr r P
 halted {T = T} r h k P is same p = subst (λ (q : Result T Halt). IfErr q P) (sym is) (subst P (sym same) p)
 

@@ -1,4 +1,4 @@
--- A disk in memory, as a run begins on it.
+-- A disk in memory at the start of a run.
 use Rattle.std.proofs.Common.{◌≡◌, ℕ, List, [], sym, ap, subst, arith}
 use Rattle.teb_rules.specs.Setup.{Setup}
 use Rattle.teb_rules.specs.Accepted.{IsSound}

@@ -1,4 +1,4 @@
--- What is shown of a run on a disk has a name.
+-- The nodes and tables in the output of a run on a disk have names.
 use Rattle.std.proofs.Common.{◌≡◌, ℕ, Bool, List, [], ◌∷◌, ◌++◌, refl, sym, ◌∙◌, ap, subst, arith, length-append, ℤ}
 use Rattle.std.specs.Prelude.{All}
 use Rattle.std.proofs.Math.ListN.{get_or-append}
@@ -22,7 +22,7 @@ use Rattle.crash_runner.specs.Crashes.{Course, Through, AtOnce, AtCommit}
 all_front : {A : Type 0} (P : A → Type 0) (xs ys : List A) → All P (xs ++ ys) → All P xs
 all_front P xs ys all k d low = subst P (get_or-append xs ys d k low) (all k d (omega (arith, low, length-append xs ys)))
 
--- the replies that were given are the first ones
+-- the replies that were given are the first of the log
 given_first : (stop : ℕ) (log : List Answered) (commits : ℕ) (given : List Answered) (stopped : Bool) (kept : ℕ) → Course stop log commits given stopped kept → (more : List Answered)
     × (log ≡ given ++ more)
 given_first stop log commits given stopped kept (Through b all s n) = ([], sym all ∙ sym (append-nil given))

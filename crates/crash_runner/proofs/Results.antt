@@ -1,4 +1,4 @@
--- What is shown of a run on a disk, and of what is recovered.
+-- The output of a run on a disk and of a recovery.
 use Rattle.std.proofs.Common.{◌≡◌, ℕ, Bool, List, [], length, None, refl, sym, ◌∙◌, ap, subst, ℤ}
 use Rattle.std.specs.Prelude.{All}
 use Rattle.teb_names.specs.declared.Cell.{Cell}

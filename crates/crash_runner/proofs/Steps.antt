@@ -1,4 +1,4 @@
--- What one request does to a run on a disk.
+-- The effect of one request on a run on a disk.
 use Rattle.std.proofs.Common.{◌≡◌, ◌≤◌, ◌<◌, ◌+◌, ◌-◌, ◌*◌, ◌^◌, inl, inr, ℕ, zero, suc, Bool, false, cond, List, [], ◌∷◌, ◌++◌, length, Some, refl, sym, ◌∙◌, ap, subst, subst₂, arith}
 use Rattle.std.proofs.lemmas.Bool.{cases_lt}
 use Rattle.std.proofs.lemmas.List.{take_all}
@@ -71,7 +71,7 @@ other_reply (reply.Again u n) never = refl
 other_reply (reply.Aborted c) never = refl
 other_reply (reply.Refused w) never = refl
 
--- a commit is asked by no other request
+-- a request that commits has weight 1
 weighs : (H : List Event) (s : Session) (r : Request) (t : ℕ) → committing H s r ≡ Some t → weight r ≡ 1
 weighs H s Commit t e = refl
 weighs H s (Begin k) t e = refl
@@ -96,7 +96,7 @@ before_more stop made t is-stop is-made small never = elim (cases_lt (made + 4) 
     go zero e le = inl refl
     go (suc n) e le = absurd (never (record { from = (omega (arith, e), omega (arith, e, le, is-made)); small = omega (arith, is-made, small) }))
 
--- calls that are not sure, and yet promised: the stop is one of them
+-- if calls within the promise are not sure to succeed, one of them is the promised stop
 stop_among : (most n k : ℕ) (t : Tally) → t.made + k ≤ most → t.written + n ≤ t.promise.bytes → IsBefore t.promise.stop t.made → (AreSure most k n t → ⊥) → (t.made < t.promise.stop)
     × (t.promise.stop ≤ t.made + k)
 stop_among most n k t promised fits (inl none) never = absurd (never (record { before = inl none; promised = promised; fits = fits }))
@@ -109,12 +109,12 @@ module _ {D : Type 0} (tally : D → Tally) (safe : D → List ℕ) (may_leave :
   abbrev Goes : Kept D → List Answered → Type 0
   Goes k log = IsUnderway p tally safe k log
 
-  -- what is safe has the records of all commits
+  -- the safe bytes have the records of all commits
   pub safe_now : (k : Kept D) → ((image : List ℕ) → may_leave k.disk image → HasFirst k.store k.events k.acknowledged image) → k.acknowledged ≡ commit_count k.events
       → recovered default_capacity (safe k.disk) ≡ Whole (records_of k.store.setup k.events)
   safe_now k images all = kept_all (records_of k.store.setup k.events) (safe k.disk) k.acknowledged (images (safe k.disk) (safe_is_left k.disk)) (all ∙ sym (length-records k.store.setup k.events))
 
-  -- there is room for a commit
+  -- a commit has enough room
   fits_more : (k : Kept D) (log : List Answered) (s : Session) (r : Request) (t : ℕ) → Goes k log → weight r + effects k.events ≤ 65536 → committing k.events s r ≡ Some t
       → (k.end + (6 + 14 * length (puts_of k.events t)) ≤ default_capacity) × ((tally k.disk).written + (6 + 14 * length (puts_of k.events t)) ≤ reserved_bytes)
       × ((tally k.disk).made + 4 < reserved_calls)
@@ -129,7 +129,7 @@ module _ {D : Type 0} (tally : D → Tally) (safe : D → List ℕ) (may_leave :
   never_full k log s r u few capacity wide full = let fits = (fits_more k log s r full.txn u few full.commits).0 in omega (arith, fits, full.full)
 
   module _ (old new : Kept D) (log : List Answered) (s : Session) (r : Request) (u : Goes old log) (few : weight r + effects old.events ≤ 65536) (same : IsSameStore old new) where
-    -- an answer was given
+    -- the request was answered
     module _ (y : Reply) (says : y ≡ (answer old.store old.events s r).0) (events : new.events ≡ (answer old.store old.events s r).1) (runs : new.stopped ≡ false)
         (all : new.acknowledged ≡ commit_count new.events)
         (end : new.end ≡ length (records (records_of new.store.setup new.events))) (images : (image : List ℕ) → may_leave new.disk image → HasFirst new.store new.events new.acknowledged image)
@@ -237,7 +237,7 @@ module _ {D : Type 0} (tally : D → Tally) (safe : D → List ℕ) (may_leave :
           };
         }
 
--- what is left of the promised calls when a run is through
+-- the calls and bytes still reserved at the end of a run
 pub room_left : {D : Type 0} (tally : D → Tally) (safe : D → List ℕ) (p : Promise) (k : Kept D) (log : List Answered) → IsUnderway p tally safe k log → effects k.events ≤ 65536
     → HasRoom (tally k.disk)
 room_left tally safe p k log u few =
@@ -249,7 +249,7 @@ room_left tally safe p k log u few =
       written = omega (arith, low, long, u.end, u.written);
     }
 
--- ---- the journal is begun, or not
+-- ---- the journal is created, or not
 
 module _ {D : Type 0} (tally : D → Tally) (safe : D → List ℕ) (may_leave : D → List ℕ → Type 0) (safe_is_left : (disk : D) → may_leave disk (safe disk)) (disk : D)
     (none : (tally disk).made ≡ 0) (empty : (tally disk).written ≡ 0) (room : IsRoomy (tally disk).promise) where

@@ -16,7 +16,7 @@ use Rattle.teb_rules.specs.Steps.{cursor, least_step}
 use Rattle.cursor_book.specs.Cursors.{CursorsOf, cursor_in, moved}
 use Rattle.cursor_book.proofs.Numbered.{length-map-numbers, at-map-numbers, set-map-numbers}
 
--- as many as have begun, each at its place
+-- there is one cursor for each transaction that has begun
 pub length-cursors : (cs : List ℕ) (S : Setup) (H : List Event) → CursorsOf cs S H → length cs ≡ begun_count H
 unfolding txns
 length-cursors cs S H h = ap length h ∙ length-map-numbers (cursor S H) (begun_count H)
@@ -25,19 +25,19 @@ pub cursor_at : (cs : List ℕ) (S : Setup) (H : List Event) (t : ℕ) → Curso
 unfolding txns
 cursor_at cs S H t h a b = ap (λ (xs : List ℕ). cursor_in xs t) h ∙ at-map-numbers (cursor S H) (begun_count H) t a b
 
--- nothing has happened
+-- the empty history
 pub cursors_none : (S : Setup) → CursorsOf [] S []
 unfolding txns begun_count numbers
 cursors_none S = refl
 
--- a transaction begins, which has done nothing yet
+-- a transaction begins; it has done nothing yet
 pub cursors_began : (cs : List ℕ) (S : Setup) (P : List Event) (t : Txn) (s : Session) (k : Kind) (i : ℕ) → CursorsOf cs S P → cursor S P (suc (begun_count P)) ≡ 0
     → CursorsOf (cs ++ 0 ∷ []) S (Began t s k i ∷ P)
 unfolding txns begun_count numbers cursor
 cursors_began cs S P t s k i h z = ap (λ (xs : List ℕ). xs ++ 0 ∷ []) h ∙ ap (λ (c : ℕ). map (cursor S P) (numbers (begun_count P)) ++ c ∷ []) (sym z)
     ∙ sym (map-append (cursor S P) (numbers (begun_count P)) (suc (begun_count P) ∷ []))
 
--- the cursor of a transaction after an access of a cell, by itself or by another
+-- the cursor of u after an access by t, which may be u or another transaction
 cursor_got : (S : Setup) (P : List Event) (t w : Txn) (x : Cell) (v : Option ℤ) (u : ℕ) → cursor S (Got t x w v ∷ P) u ≡ cond (eqb t.0 u)
     (unwrap_or (least_step (profile S (kind_of P u)) (cursor S P u) x.table.0) (cursor S P u)) (cursor S P u)
 unfolding cursor

@@ -1,4 +1,4 @@
--- Lists that have one element for each of the numbers 1, 2, .. up to n.
+-- Lists that have one element for each of the numbers 1 to n.
 use Rattle.std.proofs.Common.{◌≡◌, ℕ, zero, suc, ◌-◌, ◌<◌, ◌≤◌, List, [], ◌∷◌, ◌++◌, length, map, get_or, refl, sym, ap, ◌∙◌, arith, inl, inr, length-append}
 use Rattle.std.proofs.Math.ListN.{set}
 use Rattle.std.proofs.Math.Seq.{set-append_seam, get_or-append_seam}
@@ -32,7 +32,7 @@ map_same f g zero h = refl
 map_same f g (suc n) h = map_more f n ∙ ap (λ (xs : List ℕ). xs ++ f (suc n) ∷ []) (map_same f g n (λ u a b. h u a (omega arith)))
     ∙ ap (λ (z : ℕ). map g (numbers n) ++ z ∷ []) (h (suc n) (omega arith) (omega arith)) ∙ sym (map_more g n)
 
--- another element for t alone
+-- replacing the element of t
 pub set-map-numbers : (f g : ℕ → ℕ) (n t : ℕ) → 0 < t → t ≤ n → ((u : ℕ) → (u ≡ t → ⊥) → f u ≡ g u) → set (map f (numbers n)) (t - 1) (g t) ≡ map g (numbers n)
 set-map-numbers f g zero t h k s = absurd (omega arith)
 set-map-numbers f g (suc n) t h k s =

@@ -1,4 +1,4 @@
--- An event that the rules grant could come where it comes.
+-- An event that the rules grant may follow the history.
 use Rattle.std.proofs.Common.{List}
 use Rattle.teb_history.specs.declared.Event.{Event}
 use Rattle.teb_history.specs.declared.Event.TheVariants.{Began, Got, Put, Ready, Done, Gone, Told}

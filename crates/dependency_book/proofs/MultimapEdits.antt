@@ -1,4 +1,4 @@
--- What edits make of the lists of cells.
+-- What edits do to the lists of cells.
 use Rattle.std.proofs.Common.{◌≡◌, ℕ, suc, ◌+◌, Bool, true, false, cond, List, [], ◌∷◌, sym, ◌∙◌, ap, arith}
 use Rattle.std.specs.List.{count_by}
 use Rattle.teb_names.specs.declared.Cell.{Cell}
@@ -10,7 +10,7 @@ use Rattle.dependency_book.specs.Places.{Room, HasRoom}
 use Rattle.dependency_book.specs.Books.{HasRooms}
 use Rattle.sorted_multimap.proofs.TakenMatches.{lasts_after, count_cons}
 
--- for each event that passes at a cell the last value that passes is taken out of the values a; b is what stands, with the events `left` of `all` still to be walked
+-- for each event that passes at a cell, the last value that passes is removed from a; b is the state while the events `left` of `all` remain
 pub record IsForgetting {V : Type 0} (p : V → Bool) (q : Cell → Event → Bool) (a b : Cell → List V) (all left : List Event) : Type 0 where
   pub values : (x : Cell) → without_lasts (count_by (q x) left) p (b x) ≡ without_lasts (count_by (q x) all) p (a x)
 
@@ -28,12 +28,12 @@ module _ {V : Type 0} (p : V → Bool) (q : Cell → Event → Bool) (a : Cell �
       one_more true n vs = lasts_after p n vs ∙ ap (λ (m : ℕ). without_lasts m p vs) (let e : suc n ≡ n + 1 = omega arith in e)
       one_more false n vs = ap (λ (m : ℕ). without_lasts m p vs) (let e : n ≡ n + 0 = omega arith in e)
 
-  -- an event that does not pass
+  -- an event that does not pass changes nothing
   pub forgetting_other : (b c : Cell → List V) (left rest : List Event) (e : Event) → IsForgetting p q a b all left → left ≡ e ∷ rest → ((x : Cell) → q x e ≡ false) → ((x : Cell) → c x ≡ b x)
       → IsForgetting p q a c all rest
   forgetting_other b c left rest e was is off same = forgetting_next b c left rest e was is (λ x. same x ∙ sym (ap (λ (o : Bool). cond o (without_last p (b x)) (b x)) (off x)))
 
-  -- when nothing is left
+  -- no event remains
   pub forgotten : (b : Cell → List V) (left : List Event) → IsForgetting p q a b all left → left ≡ [] → (x : Cell) → b x ≡ without_lasts (count_by (q x) all) p (a x)
   forgotten b left was is x = ap (λ (es : List Event). without_lasts (count_by (q x) es) p (b x)) (sym is) ∙ was.values x
 

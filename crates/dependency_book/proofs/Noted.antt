@@ -52,7 +52,7 @@ filter_made p q same (n ∷ ns) = go (p n) (same n) (filter_made p q same ns)
         ∙ ap (λ (ys : List Txn). record { 0 = n } ∷ ys) ih
     go false h ih = ap (λ (o : Bool). cond o (record { 0 = n } ∷ filter q (map (λ t. record { 0 = t }) ns)) (filter q (map (λ t. record { 0 = t }) ns))) h ∙ ih
 
--- the unfinished ones ascend
+-- the unfinished transactions ascend
 ascending_made : (ns : List ℕ) → IsAscendingBy number ns → IsAscendingBy number_of (map (λ t. record { 0 = t }) ns)
 ascending_made [] h = tt
 ascending_made (n ∷ ns) h = (above_made n ns h.0, ascending_made ns h.1)
@@ -65,7 +65,7 @@ pub unfinished_ascend : (b : Lists) (P : List Event) → BookOf b P → IsAscend
 unfolding unfinished_txns
 unfinished_ascend b P was = subst (IsAscendingBy number_of) (sym was.unfinished) (ascending_made (filter (unfinished P) (txns P)) (ascending-filter number (unfinished P) (txns P) (txns_ascending P)))
 
--- an event that begins, commits and aborts nobody
+-- an event that begins, commits and aborts no transaction
 module _ (e : Event) (P : List Event) (b : (u : ℕ) → is_began u e ≡ false) (d : (u : ℕ) → is_done u e ≡ false) (g : (u : ℕ) → is_gone u e ≡ false) where
   pub stay_unfinished : (u : ℕ) → unfinished (e ∷ P) u ≡ unfinished P u
   stay_unfinished u = unfinished_same e P u (b u) (d u) (g u)
@@ -75,7 +75,7 @@ module _ (e : Event) (P : List Event) (b : (u : ℕ) → is_began u e ≡ false)
   unfinished_txns_same n = (λ j. map (λ t. record { 0 = t }) (filter (unfinished (e ∷ P)) (numbers (n j)))) ∙ ap (λ (ns : List ℕ). map (λ t. record { 0 = t }) ns)
       (filter_alike (unfinished P) (unfinished (e ∷ P)) stay_unfinished (numbers (begun_count P)))
 
--- an event that aborts nobody
+-- an event that aborts no transaction
 module _ (e : Event) (P : List Event) (g : (u : ℕ) → is_gone u e ≡ false) where
   pub readers_alike : (rs : List (Txn × Txn)) → filter (λ r. not (aborted (e ∷ P) r.0.0)) rs ≡ filter (λ r. not (aborted P r.0.0)) rs
   readers_alike rs = filter_alike (λ r. not (aborted P r.0.0)) (λ r. not (aborted (e ∷ P) r.0.0)) (λ r. ap not (aborted_same e P r.0.0 (g r.0.0))) rs
@@ -103,7 +103,7 @@ noted_nothing b r w s u = record {
     none false = refl
 
 module _ (b d : Lists) (P : List Event) (was : BookOf b P) where
-  -- nobody begins, reads, puts or finishes
+  -- no transaction begins, reads, puts or finishes
   quiet : (e : Event) → MayFollow P e → ((u : ℕ) → is_began u e ≡ false) → ((u : ℕ) → is_done u e ≡ false) → ((u : ℕ) → is_gone u e ≡ false) → begun_count (e ∷ P) ≡ begun_count P
       → ((x : Cell) → all_readers (e ∷ P) x ≡ all_readers P x) → ((x : Cell) → all_writers (e ∷ P) x ≡ all_writers P x) → ((t : Txn) → all_sources (e ∷ P) t ≡ all_sources P t)
       → BookOf b (e ∷ P)
@@ -250,7 +250,7 @@ module _ (b d : Lists) (P : List Event) (was : BookOf b P) where
       here true ts = filter_push (λ z. not (aborted P z.0)) ts t (ap not stands)
       here false ts = refl
 
-  -- whom an event finishes
+  -- the transaction that an event finishes
   module _ (e : Event) (t : Txn) (is_t : unfinished P t.0 ≡ true) (others : (u : ℕ) → unfinished (e ∷ P) u ≡ (not (eqb u t.0) && unfinished P u)) where
     pub left_unfinished : begun_count (e ∷ P) ≡ begun_count P → filter (λ u. not (eqb u.0 t.0)) (unfinished_txns P) ≡ unfinished_txns (e ∷ P)
     unfolding unfinished_txns txns

@@ -1,4 +1,4 @@
--- What one more event changes of who is unfinished, and what holds of histories whose events could come.
+-- What one more event changes of which transactions are unfinished, and what holds of histories each of whose events could occur.
 use Rattle.std.proofs.Common.{◌≡◌, ◌⊎◌, ℕ, ◌<◌, ◌≤◌, Bool, true, false, not, ◌&&◌, ◌||◌, List, [], ◌∷◌, refl, sym, ◌∙◌, ap, subst, inl, inr, arith}
 use Rattle.std.proofs.lemmas.Bool.{eqb-true, false_from_ne_true}
 use Rattle.teb_history.specs.declared.Event.{Event}
@@ -16,7 +16,7 @@ unfinished_is P u = refl
 pub aborted_same : (e : Event) (P : List Event) (u : ℕ) → is_gone u e ≡ false → aborted (e ∷ P) u ≡ aborted P u
 aborted_same e P u h = aborted-cons e P u ∙ ap (λ (b : Bool). b || aborted P u) h
 
--- who is unfinished has begun, and is neither committed nor aborted
+-- an unfinished transaction has begun, and is neither committed nor aborted
 pub unfinished_parts : (P : List Event) (u : ℕ) → unfinished P u ≡ true → (begun P u ≡ true) × (committed P u ≡ false) × (aborted P u ≡ false)
 unfinished_parts P u h = go (begun P u) (committed P u) (aborted P u) (sym (unfinished_is P u) ∙ h)
   where
@@ -44,7 +44,7 @@ nothing_aborted u = nobody (is_gone u)
 clash : (b : Bool) → b ≡ true → b ≡ false → ⊥
 clash b h k = let z : true ≡ false = sym h ∙ k in cc
 
--- whoever has begun, committed or been aborted has a number up to the count
+-- a transaction that has begun, committed or been aborted has a number up to the count
 pub record Known (P : List Event) (u : ℕ) : Type 0 where
   pub begins : begun P u ≡ true → u ≤ begun_count P
   pub commits : committed P u ≡ true → u ≤ begun_count P
@@ -103,7 +103,7 @@ known (Told t ∷ P) u o = let ih = known P u o.1 in record {
   aborts = λ h. ih.aborts (sym (aborted-cons (Told t) P u) ∙ h);
 }
 
--- the next number is of nobody
+-- a number above the count is not in use
 pub fresh : (P : List Event) (u : ℕ) → Orderly P → begun_count P < u → (begun P u ≡ false) × (committed P u ≡ false) × (aborted P u ≡ false)
 fresh P u o lt =
     let k = known P u o in

@@ -1,4 +1,4 @@
--- What a transaction's own events read and put, against who read and who put each cell.
+-- What a transaction's own events read and put, compared with the readers and the writers of each cell.
 use Rattle.std.proofs.Common.{◌≡◌, ◌≤◌, ℕ, ℤ, ◌+◌, Bool, true, false, cond, not, ◌&&◌, ◌||◌, eqb, is_some, List, [], ◌∷◌, ◌++◌, Option, Some, None, refl, sym, ◌∙◌, ap, arith}
 use Rattle.std.specs.List.{list_any, count_by}
 use Rattle.teb_names.specs.declared.Txn.{Txn}
@@ -15,7 +15,7 @@ use Rattle.dependency_book.specs.Dependencies.{has, reads, puts, all_readers, al
 use Rattle.sorted_multimap.proofs.TakenMatches.{count_push, count_cons}
 use Rattle.dependency_book.proofs.MultimapEdits.{one_txn}
 
--- an event that accesses y accesses x where they are the same cell
+-- an event that accesses y accesses x if and only if they are the same cell
 accessed_if : (b : Bool) (v : Option ℤ) → is_some (cond b (Some v) None) ≡ b
 accessed_if true v = refl
 accessed_if false v = refl
@@ -26,7 +26,7 @@ reads_if t y w v x = accessed_if (same_cell y x) v
 pub puts_if : (t : Txn) (y : Cell) (v : Option ℤ) (x : Cell) → puts x (Put t y v) ≡ same_cell y x
 puts_if t y v x = accessed_if (same_cell y x) v
 
--- what is no read reads nothing, and what is no put puts nothing
+-- an event that is not a Got reads nothing, and one that is not a Put puts nothing
 pub no_read : (e : Event) → ((t : Txn) (y : Cell) (w : Txn) (v : Option ℤ) → e ≡ Got t y w v → ⊥) → (x : Cell) → reads x e ≡ false
 no_read (Began t s k i) f x = refl
 no_read (Got t y w v) f x = absurd (f t y w v refl)
@@ -54,7 +54,7 @@ any_push q true (x ∷ xs) a = ap (λ (b : Bool). q x || b) (any_push q true xs 
     or_assoc false b c = refl
 any_push q false xs a = sym (or_false (list_any q xs))
 
--- a first Put of the cell m by the transaction e, where h says whether it has put before, and k whether t has
+-- a first Put: m says whether it is of the cell, e whether by t, h whether its transaction has put the cell before, and k whether t has
 first_put : (m e h k : Bool) → (e ≡ true → h ≡ k) → (k || ((m && not h) && e)) ≡ ((e && m) || k)
 first_put m true h k f = ap (λ (b : Bool). k || ((m && not b) && true)) (f refl) ∙ go m k
   where
@@ -72,7 +72,7 @@ nothing_put : (t : ℕ) (x : Cell) → wrote [] t x ≡ false
 unfolding wrote put_at
 nothing_put t x = came_any (is_put t x) []
 
--- t is among the writers of x where it put x
+-- t is among the writers of x if and only if it put x
 pub put_by_it : (P : List Event) (t : Txn) (x : Cell) → has t (all_writers P x) ≡ wrote P t.0 x
 unfolding all_writers
 put_by_it [] t x = sym (nothing_put t.0 x)
@@ -97,7 +97,7 @@ uncounted q e P t h = count_cons q (is_of t e) e (own_events P t) ∙ ap (λ (b 
     none n true = omega arith
     none n false = omega arith
 
--- t stands among the readers of x as often as it read x
+-- t is among the readers of x as many times as it read x
 pub reads_counted : (P : List Event) (t : Txn) (x : Cell) → count_by (λ r. eqb r.0.0 t.0) (all_readers P x) ≡ count_by (reads x) (own_events P t.0)
 unfolding all_readers own_events
 reads_counted [] t x = refl
@@ -118,7 +118,7 @@ reads_counted (Done s ∷ P) t x = reads_counted P t x ∙ sym (uncounted (reads
 reads_counted (Gone s c ∷ P) t x = reads_counted P t x ∙ sym (uncounted (reads x) (Gone s c) P t.0 refl)
 reads_counted (Told s ∷ P) t x = reads_counted P t x ∙ sym (uncounted (reads x) (Told s) P t.0 refl)
 
--- and among its writers at most as often as it put x
+-- and among its writers at most as many times as it put x
 pub puts_counted : (P : List Event) (t : Txn) (x : Cell) → count_by (λ u. eqb u.0 t.0) (all_writers P x) ≤ count_by (puts x) (own_events P t.0)
 unfolding all_writers own_events
 puts_counted [] t x = omega arith

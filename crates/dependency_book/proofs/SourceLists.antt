@@ -6,7 +6,7 @@ use Rattle.teb_history.specs.Live.{number_of}
 use Rattle.arena_multimap.specs.NumberedLists.{list_in}
 use Rattle.dependency_book.specs.Books.{list_of, SourcesAscend}
 
--- the list of n, where it is a number of a transaction
+-- the list at index n - 1 is that of transaction n, if n is not 0
 pub list_before : (ls : List (List Txn)) (n : ℕ) → 0 < n → list_in ls (n - 1) ≡ list_of ls n
 list_before ls zero p = absurd (omega arith)
 list_before ls (suc i) p = ap (list_in ls) (let e : suc i - 1 ≡ i = omega arith in e)
@@ -15,7 +15,7 @@ pub no_lists : (n : ℕ) → list_of [] n ≡ []
 no_lists zero = refl
 no_lists (suc i) = refl
 
--- an empty list that becomes the last
+-- an empty list is added at the end
 pub one_more : (ls : List (List Txn)) (n : ℕ) → list_of (ls ++ [] ∷ []) n ≡ list_of ls n
 one_more ls zero = refl
 one_more ls (suc i) = go ls i
@@ -26,7 +26,7 @@ one_more ls (suc i) = go ls i
     go (l ∷ ls) zero = refl
     go (l ∷ ls) (suc i) = go ls i
 
--- ascending lists, of which one becomes another that ascends
+-- ascending lists still ascend if one of them is replaced by an ascending one
 pub set_ascends : (ls : List (List Txn)) (i : ℕ) (L : List Txn) → SourcesAscend ls → IsAscendingBy number_of L → SourcesAscend (set ls i L)
 set_ascends ls i L a l t = go ls i (λ k. a (record { 0 = suc k })) t.0
   where

@@ -1,4 +1,4 @@
--- Whom a transaction read from: the list that a book keeps, and the relation.
+-- The transactions that a transaction read from: the list that a book keeps, and the relation.
 use Rattle.std.proofs.Common.{◌≡◌, ℕ, ◌<◌, ◌≤◌, Bool, true, false, cond, not, ◌&&◌, ◌||◌, eqb, ltb, List, [], ◌∷◌, find, Some, None, refl, sym, ◌∙◌, ap, subst, arith}
 use Rattle.std.proofs.lemmas.Bool.Decides.{nat_tests}
 use Rattle.std.proofs.lemmas.Bool.{eqb-true, ne_eqb}
@@ -33,7 +33,7 @@ has-put w v (x ∷ xs) = go (ltb x.0 v.0) (eqb x.0 v.0) refl (has-put w v xs)
     go false true e ih = once (eqb v.0 w.0) (has w xs) ∙ ap (λ (n : ℕ). eqb v.0 w.0 || (eqb n w.0 || has w xs)) (sym (eqb-true x.0 v.0 e))
     go false false e ih = refl
 
--- w is among the sources of t exactly where t read from it and it is no starting row
+-- w is among the sources of t if and only if t read from it and it is not the starting row
 pub has_source : (H : List Event) (t w : Txn) → has w (all_sources H t) ≡ (ltb 0 w.0 && read_from H t.0 w.0)
 unfolding all_sources read_from
 has_source [] t w = sym (and_false (ltb 0 w.0))
@@ -90,7 +90,7 @@ pub sources_standing : (H : List Event) (t : Txn) → aborted H t.0 ≡ false �
 unfolding sources
 sources_standing H t h = ap (λ (o : Bool). cond o [] (all_sources H t)) h
 
--- the first of an ascending list that passes is the least that does
+-- the first element of an ascending list that passes is the least that passes
 above_has : (n : ℕ) (w : Txn) (ts : List Txn) → w.0 ≤ n → AllAbove number_of n ts → has w ts ≡ false
 above_has n w [] l h = refl
 above_has n w (u ∷ us) l h = rw (ne_eqb u.0 w.0 (λ e. omega (arith, h.0))) (above_has n w us l h.1)

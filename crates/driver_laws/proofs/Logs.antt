@@ -7,7 +7,7 @@ use Rattle.teb_rules.specs.Scripts.{Script}
 use Rattle.teb_rules.specs.Setup.{Store}
 use Rattle.driver_laws.proofs.Ends.{drive_follows}
 
--- what the driver makes and no turn follows is a whole log of turns
+-- if no session has a turn after the driver's log, the log is a whole log of turns
 pub turns_made : (n : ℕ) (X : Store) (scripts : List Script) (log : List Entry) → drive n X [] (seated scripts) ≡ log → turn_after X scripts log ≡ None → Turns X scripts log
 turns_made n X scripts log e k = record { follows = subst (Follows X [] (seated scripts)) e (drive_follows X n [] (seated scripts)); ends = k }
 

@@ -1,4 +1,4 @@
--- Passes that are still of their sessions.
+-- Passes that still belong to their sessions.
 use Rattle.std.proofs.Common.{◌≡◌, ℕ, suc, ◌<◌, List, [], ◌∷◌, ◌++◌, map, length, get_or, take, drop, refl, ◌∙◌, ap, arith}
 use Rattle.std.proofs.Math.Seq.{take-append_seam}
 use Rattle.session_server.specs.Halls.{Ghosts, Pass}
@@ -15,7 +15,7 @@ module _ {C : Type 0} {g : Ghosts C} where
       let rest = same_numbers xs ys (omega arith) (λ i d b. each (suc i) d (omega arith)) in
       λ i. (first i).0 ∷ rest i
 
-  -- the passes of a `Vec` of n, once all of them were written
+  -- the sessions of n passes in a `Vec` stay the same after all passes were written
   pub numbers_written : (n : ℕ) (all old new : List (Pass C g)) → old ≡ all → length new ≡ length old → n ≡ length new
       → ((i : ℕ) (d : Pass C g) → i < length old → (get_or new i d).session ≡ (get_or old i d).session) → map number_of (take n (new ++ drop (length new) all)) ≡ map number_of all
   numbers_written n all old new same l count each =

@@ -1,4 +1,4 @@
--- What a store server has a name for, as a printed run needs it.
+-- The names that a store server has, as a printed run needs them.
 use Rattle.teb_names.specs.declared.naming.NameBook.{NameBook}
 use Rattle.teb_rules.specs.Setup.{Store}
 use Rattle.printed_run.specs.Printed.{IsNamedBy}

@@ -1,4 +1,4 @@
--- Sessions that are still of their sessions.
+-- Sessions that keep their session numbers.
 use Rattle.std.proofs.Common.{◌≡◌, ℕ, suc, ◌<◌, List, [], ◌∷◌, ◌++◌, map, length, get_or, take, drop, refl, ◌∙◌, ap, arith}
 use Rattle.std.proofs.Math.Seq.{take-append_seam}
 use Rattle.shared_store.specs.declared.server.EpochServer.{Ghosts}
@@ -16,7 +16,7 @@ module _ {V L B : Type 0} {g : Ghosts V L B} where
       let rest = same_numbers xs ys (omega arith) (λ i d b. each (suc i) d (omega arith)) in
       λ i. (first i).0 ∷ rest i
 
-  -- the sessions of a `Vec` of n, once all of them were written
+  -- once all n sessions of a `Vec` are written, they have the same numbers
   pub numbers_written : (n : ℕ) (all old new : List (StoreSession V L B g)) → old ≡ all → length new ≡ length old → n ≡ length new
       → ((i : ℕ) (d : StoreSession V L B g) → i < length old → (get_or new i d).session ≡ (get_or old i d).session) → map number_of (take n (new ++ drop (length new) all)) ≡ map number_of all
   numbers_written n all old new same l count each =

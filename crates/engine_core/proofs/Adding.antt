@@ -1,4 +1,4 @@
--- What an addition comes to.
+-- The sum that an Add writes, and the refusals for an unread cell and for overflow.
 use Rattle.std.proofs.Common.{◌≡◌, ℕ, ◌-◌, ◌^◌, Bool, true, false, cond, List, Option, Some, None, ℤ, pos, negsuc, ◌+ℤ◌, refl, sym, ◌∙◌, ap, ap₂, arith, w64, to_z, of_z}
 use Rattle.std.proofs.lemmas.Int.{to_z-of_z}
 use Rattle.std.proofs.lemmas.Bool.{le-leb, lt-leb, cases_lt}
@@ -20,7 +20,7 @@ fits_no_i64 : (z : ℤ) → (FitsSigned w64 z → ⊥) → fits z ≡ false
 fits_no_i64 (pos n) f = elim (cases_lt n (2 ^ 63)) [ inl h ↦ absurd (f (record { sfits = h })) | inr h ↦ lt-leb n (2 ^ 63 - 1) (omega arith) ]
 fits_no_i64 (negsuc n) f = elim (cases_lt n (2 ^ 63)) [ inl h ↦ absurd (f (record { sfits = h })) | inr h ↦ rw (lt-leb n (2 ^ 63 - 1) (omega arith)) refl ]
 
--- a sum that is there exactly where it fits
+-- an optional sum that is Some if and only if the sum fits in 64 bits is `sum_of`
 pub sums : (b v : ℤ) (o : Option ℤ) → SomeIff o (FitsSigned w64 (b +ℤ v)) (b +ℤ v) → o ≡ sum_of b v
 sums b v None f = rw (fits_no_i64 (b +ℤ v) f) refl
 sums b v (Some s) f = rw (fits_i64 (b +ℤ v) f.0, f.1) refl
@@ -42,6 +42,6 @@ overflows S H t x v o b e q = rw e (go (fits (b +ℤ v)) q)
     go true q = absurd (cc)
     go false q = refl
 
--- the sum of two numbers that fit, as a call gives it
+-- for two numbers that fit, the result of the call is their checked sum
 pub summed : (b v : ℤ) (o r : Option ℤ) → FitsSigned w64 b → FitsSigned w64 v → o ≡ sum_of (to_z w64 (of_z w64 b)) (to_z w64 (of_z w64 v)) → o ≡ r → sum_of b v ≡ r
 summed b v o r f g e q = ap₂ sum_of (sym (to_z-of_z w64 b f)) (sym (to_z-of_z w64 v g)) ∙ sym e ∙ q

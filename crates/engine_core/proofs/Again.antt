@@ -1,4 +1,4 @@
--- Whether a Put is of a cell that its transaction has put before is told by its place.
+-- Whether a transaction has already put a cell is known from the place of its Put.
 use Rattle.std.proofs.Common.{Bool, ◌&&◌, not, List, ◌∙◌, ap}
 use Rattle.teb_names.proofs.Bools.{and_true}
 use Rattle.teb_names.specs.declared.Cell.{Cell}
@@ -14,7 +14,7 @@ use Rattle.dependency_book.specs.Dependencies.{IsAgain}
 use Rattle.dependency_book.proofs.OrderlyHistories.{unfinished_parts}
 use Rattle.engine_core.specs.Keeping.{HasPlace}
 
--- a transaction that puts has a version of the cell exactly where it has put the cell before
+-- a transaction that puts a cell already has a version of it if and only if it has put the cell before
 pub put_again : (S : Setup) (P : List Event) (L : Cell → List Version) (e : Event) (p : Place) → HoldsVersions S P L → HasPlace L e p → Granted S P e → IsAgain P e p.is_there
 put_again S P L (Put t x v) p h placed g =
     placed.2 ∙ h.writers x t.0 ∙ ap (λ (o : Bool). wrote P t.0 x && not o) (unfinished_parts P t.0 g.unfinished).2 ∙ and_true (wrote P t.0 x)

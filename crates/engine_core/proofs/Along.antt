@@ -1,4 +1,4 @@
--- The nodes of a path, and the stop along them.
+-- The nodes of a path, and the first stop along them.
 use Rattle.std.proofs.Common.{◌≡◌, ℕ, zero, suc, ◌<◌, Bool, true, List, [], ◌∷◌, length, get_or, arith, eqb, eq-eqb, refl, subst, ap, ◌∙◌}
 use Rattle.std.specs.List.{All}
 use Rattle.std.proofs.lemmas.Bool.{or_left, or_right}
@@ -47,7 +47,7 @@ node_at S sound s ns e k d h = path-below S (tree_facts S sound) s (get_or ns k 
 pub within : (S : Setup) → IsSound S → (s : Spot) (ns : List Node) → node_numbers ns ≡ path S.tree s → All (λ n. n.0 < length S.tree) ns
 within S sound s ns e = All-from_get_or (λ n. n.0 < length S.tree) ns (record { 0 = 0 }) (λ k h. node_at S sound s ns e k (record { 0 = 0 }) h)
 
--- all nodes of a path may be asked
+-- every node of a path may be asked
 pub asked_along : (f : Facts) (L : Cell → List Version) (q : Question) (s : Spot) (ns : List Node) → IsSound (setup_of f) → node_numbers ns ≡ path (setup_of f).tree s
     → ((n : ℕ) → on_path (setup_of f).tree n s ≡ true → MayAsk L f q n)
     → All (CanAsk L f q) ns
@@ -55,7 +55,7 @@ asked_along f L q s ns sound e may =
     let d : Node = record { 0 = 0 } in
     All-from_get_or (CanAsk L f q) ns d (λ k h. (node_at (setup_of f) sound s ns e k d h, may (get_or ns k d).0 (on_at (setup_of f) s ns k d e h)))
 
--- the stops of the rules, along the path
+-- the first stop along the path is the stop of the rules
 pub access_along : (S : Setup) (H : List Event) (t : ℕ) (x : Cell) (write : Bool) (ns : List ℕ) (s : Stop) → ns ≡ path S.tree (spot_of H t)
     → s ≡ stop_of (λ n. on_access (row S.tree n).control S H n t x write) ns → s ≡ access_stop S H t x write
 unfolding access_stop

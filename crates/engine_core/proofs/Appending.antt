@@ -1,4 +1,4 @@
--- What is kept of the history, before and after one more event.
+-- What the engine keeps of the history, before and after one more event.
 use Rattle.std.proofs.Common.{◌≡◌, ℕ, zero, suc, ◌≤◌, ◌<◌, refl, List, [], ◌∷◌, length, Option, ℤ, sym, subst, arith}
 use Rattle.teb_names.specs.declared.TheConstants.{MOST_TXNS}
 use Rattle.teb_names.specs.declared.Cell.{Cell}
@@ -28,11 +28,11 @@ within_chain [] i b = b
 within_chain (w ∷ vs) zero b = omega arith
 within_chain (w ∷ vs) (suc i) b = let r = within_chain vs i (let z : suc i ≤ suc (length (writers_of vs)) = b in omega arith) in omega arith
 
--- the place of a Put
+-- the place that was found for a Put is a valid place
 pub put_placed : (S : Setup) (H : List Event) (L : Cell → List Version) (t : Txn) (y : Cell) (v : Option ℤ) (p : Place) → IsPlaced S H L t.0 y p → HasPlace L (Put t y v) p × PutsAt S H L (Put t y v) p
 put_placed S H L t y v p i = ((within_chain (L y) p.at i.place.within, i.own, i.there), i.place)
 
--- no more than MOST_TXNS begin
+-- at most MOST_TXNS transactions begin
 begun_after : (S : Setup) (P : List Event) (e : Event) → begun_count P ≤ MOST_TXNS → MayBegin S P e → begun_count (e ∷ P) ≤ MOST_TXNS
 unfolding begun_count
 begun_after S P (Began t s k i) h b = b.0
@@ -43,7 +43,7 @@ begun_after S P (Done t) h b = h
 begun_after S P (Gone t c) h b = h
 begun_after S P (Told t) h b = h
 
--- all is whole after an event that the rules grant, once all that is kept of the history keeps up
+-- the engine's state is whole after a granted event, if each kept structure is updated for it
 pub whole_after : (X : Store) (H G : List Event) (e : Event) (cs ds : List AnyControl) (L M : Cell → List Version) (b d : Lists) (steps more : List ℕ) (latest next : List Txn) →
     IsWhole X H cs L b steps latest → Granted X.setup H e → MayBegin X.setup H e → G ≡ e ∷ H → StandAll any_node_number any_stands ds X.setup G → HoldsVersions X.setup (e ∷ H) M → BookOf d (e ∷ H)
     → CursorsOf more X.setup G → AreLatest next (e ∷ H)
@@ -61,6 +61,6 @@ whole_after X H G e cs ds L M b d steps more latest next w g m q sa hv bo cu la 
   latest = subst (AreLatest next) (sym q) la;
 }
 
--- the cursors of the history before its newest event
+-- cursors that hold for H are one event behind e ∷ H
 pub one_behind : (S : Setup) (H G : List Event) (e : Event) (c : Kept) → G ≡ e ∷ H → Lawful S (e ∷ H) → length S.profiles ≡ S.types → CursorsOf c.cursors S H → 0 < c.spare → AreBehind S G e c
 one_behind S H G e c q l p u r = subst (λ (P : List Event). AreBehind S P e c) (sym q) (record { newest = refl; lawful = l; profiled = p; cursors = u; room = r })

@@ -1,4 +1,4 @@
--- Nothing breaks a Begin.
+-- A Begin is never told to break.
 use Rattle.std.proofs.Common.{◌≡◌, ℕ, Bool, true, false, cond, List, [], ◌∷◌, Option, Some, None, refl}
 use Rattle.teb_names.specs.declared.Node.{Node}
 use Rattle.teb_names.specs.declared.Spot.{Spot}
@@ -12,7 +12,7 @@ use Rattle.teb_rules.specs.declared.Verdict.TheVariants.{Go, Wait, Break}
 use Rattle.teb_rules.specs.Verdicts.{wait_for}
 use Rattle.teb_rules.specs.Stops.{on_begin, stop_of, stop_with, begin_stop}
 
--- a verdict that is a wait, or lets go
+-- the verdict is Wait or Go
 abbrev pub Passes : Verdict → Type 0
 Passes Go = Unit {0}
 Passes (Wait u) = Unit {0}
@@ -38,7 +38,7 @@ goes f (n ∷ ns) p w = step (f n) (p n) (goes f ns p) w
     step (Wait u) q ih w = absurd (w u (record { 0 = n }) refl)
     step (Break b) q ih w = absurd q
 
--- a Begin that does not wait may go
+-- a Begin whose stop is never a Wait may go
 pub begin_goes : (S : Setup) (H : List Event) (s : Spot) → ((u : Txn) (n : Node) → begin_stop S H s ≡ stop.Wait u n → ⊥) → begin_stop S H s ≡ stop.Go
 unfolding begin_stop
 begin_goes S H s w = goes (on_begin S H s) (path S.tree s) (on_begin_passes S H s) w

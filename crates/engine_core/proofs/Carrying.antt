@@ -1,4 +1,4 @@
--- What a decision comes to when it is carried out.
+-- The result of carrying out a decision.
 use Rattle.std.proofs.Common.{◌≡◌, ℕ, List, ◌∷◌, refl, sym, subst}
 use Rattle.teb_names.specs.declared.Cell.{Cell}
 use Rattle.teb_names.specs.declared.Txn.{Txn}
@@ -20,7 +20,7 @@ use Rattle.engine_core.specs.declared.decision.Decision.TheVariants as decision
 use Rattle.engine_core.specs.Decisions.{carried, IsShort, IsNoPut}
 use Rattle.engine_core.specs.Keeping.{HasPlace, PutsAt}
 
--- what is no Put needs no place
+-- an event other than Put needs no place
 pub no_put_placed : (S : Setup) (H : List Event) (L : Cell → List Version) (e : Event) (p : Place) → IsNoPut e → HasPlace L e p × PutsAt S H L e p
 no_put_placed S H L (Put t x v) p h = absurd h
 no_put_placed S H L (Began t s k i) p h = (tt, tt)
@@ -30,7 +30,7 @@ no_put_placed S H L (Done t) p h = (tt, tt)
 no_put_placed S H L (Gone t c) p h = (tt, tt)
 no_put_placed S H L (Told t) p h = (tt, tt)
 
--- what is no scan
+-- a decision other than Scan is short
 pub is_short : (d : Decision) → ((t : Txn) (x : Cell) (n : ℕ) → d ≡ Scan t x n → ⊥) → IsShort d
 is_short (Scan t x n) f = f t x n refl
 is_short (Answer r) f = tt
@@ -38,12 +38,12 @@ is_short (Grant r e) f = tt
 is_short (decision.Put t x v p) f = tt
 is_short (Fall t c) f = tt
 
--- what is granted, where its history is lawful
+-- the newest event of a lawful history was granted
 pub leads_granted : (S : Setup) (P : List Event) (e : Event) → Lawful S (e ∷ P) → Granted S P e
 unfolding Lawful
 leads_granted S P e l = l.0
 
--- the history of an answer is lawful
+-- the history after an answer is lawful
 pub leads_on : (X : Store) (H : List Event) (s : Session) (r : Request) → IsSound X.setup → Lawful X.setup H → Settled H → (d : Decision) → carried X H d ≡ answer X H s r
     → Lawful X.setup (carried X H d).1
 leads_on X H s r sound l t d e =

@@ -20,7 +20,7 @@ use Rattle.teb_history.proofs.Newest.{begun-cons}
 use Rattle.candidate_reads.proofs.Sources.{begun_place}
 use Rattle.engine_core.proofs.Running.{unfinished_numbered, unfinished_typed, begun_unfinished}
 
--- an access was granted to an unfinished transaction
+-- the transaction of a granted access was unfinished
 got_unfinished : (S : Setup) (P : List Event) (t w : Txn) (x : Cell) (v : Option ℤ) → Lawful S (Got t x w v ∷ P) → unfinished P t.0 ≡ true
 unfolding Lawful
 got_unfinished S P t w x v l = l.0.0.unfinished
@@ -36,7 +36,7 @@ lawful_before S e P l = l.1
 other : (u t : ℕ) (P : List Event) → begun P u ≡ true → begun P t ≡ false → eqb u t ≡ false
 other u t P b n = elim (cases_Bool (eqb u t)) [ inl e ↦ absurd (both_ways _ n (subst (λ (z : ℕ). begun P z ≡ true) (eqb-true u t e) b)) | inr e ↦ e ]
 
--- an access begins nothing
+-- an access begins no transaction
 got_begun : (P : List Event) (t w : Txn) (x : Cell) (v : Option ℤ) (u : ℕ) → begun (Got t x w v ∷ P) u ≡ begun P u
 got_begun P t w x v u = begun-cons (Got t x w v) P u
 
@@ -51,7 +51,7 @@ put_kind : (P : List Event) (t : Txn) (x : Cell) (v : Option ℤ) (u : ℕ) → 
 unfolding spot_of
 put_kind P t x v u = refl
 
--- a transaction that has not begun stands at step 0
+-- the cursor of a transaction that has not begun is at step 0
 idle_cursor : (S : Setup) (P : List Event) (t : ℕ) → Lawful S P → begun P t ≡ false → cursor S P t ≡ 0
 unfolding cursor
 idle_cursor S [] t l b = refl
@@ -67,11 +67,11 @@ idle_cursor S (Done u ∷ P) t l b = idle_cursor S P t (lawful_before S (Done u)
 idle_cursor S (Gone u c ∷ P) t l b = idle_cursor S P t (lawful_before S (Gone u c) P l) (sym (begun-cons (Gone u c) P t) ∙ b)
 idle_cursor S (Told u ∷ P) t l b = idle_cursor S P t (lawful_before S (Told u) P l) (sym (begun-cons (Told u) P t) ∙ b)
 
--- the next number has not begun
+-- the transaction with the next number has not begun
 unbegun : (S : Setup) (P : List Event) → Lawful S P → begun P (suc (begun_count P)) ≡ false
 unbegun S P l = elim (cases_Bool (begun P (suc (begun_count P)))) [ inl y ↦ absurd (let q = (begun_counted S P (suc (begun_count P)) l (begun_place P _ y)).1 in omega arith) | inr n ↦ n ]
 
--- what is known of the transaction of an access, which is the newest event
+-- facts about the transaction of an access that is the newest event
 pub record IsMover (f : Facts) (cs : List ℕ) (t : ℕ) : Type 0 where
   pub typed : IsTyped f t
   pub above : 0 < t

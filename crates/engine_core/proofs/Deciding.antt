@@ -1,4 +1,4 @@
--- What a refusal, a stop and a grant come to in the answer rule.
+-- How the answer rule treats a refusal, a stop and a grant.
 use Rattle.std.proofs.Common.{◌≡◌, ◌&&◌, ℕ, suc, ◌<◌, ◌≤◌, true, false, cond, ltb, leb, List, ◌∷◌, Option, Some, None, refl, sym, ◌∙◌, ap, subst}
 use Rattle.teb_names.specs.declared.TheConstants.{MOST_TXNS, SESSIONS}
 use Rattle.teb_names.specs.declared.Cell.{Cell}
@@ -30,14 +30,14 @@ use Rattle.engine_core.specs.declared.decision.Decision.TheVariants.{Answer}
 use Rattle.short_reply.specs.declared.ShortReply.TheVariants as short
 use Rattle.engine_core.specs.Decisions.{carried, told, IsRefusal, IsStopped}
 
--- a request of t that is stopped, and one that is not
+-- a request of t that is stopped, and one that is not stopped
 pub stops : (X : Store) (H : List Event) (t : ℕ) (s r : Stop) (d : Decision) (granted : Answered) → s ≡ r → IsStopped X H t s d → carried X H d ≡ or_stop H t r granted
 stops X H t s r d granted e k = k.0 granted ∙ ap (λ (z : Stop). or_stop H t z granted) e
 
 pub goes : (X : Store) (H : List Event) (t : ℕ) (s r : Stop) (granted : Answered) → s ≡ r → s ≡ stop.Go → granted ≡ or_stop H t r granted
 goes X H t s r granted e q = ap (λ (z : Stop). or_stop H t z granted) (sym q ∙ e)
 
--- an access that is refused, and one that is not
+-- an access that is refused, and one that is not refused
 pub is_refused : (X : Store) (H : List Event) (t : ℕ) (x : Cell) (o : Option Refusal) (why : Refusal) (d : Decision) (granted : Answered) → IsRefusal X H t x o → o ≡ Some why
     → d ≡ Answer (short.Refused why) → carried X H d ≡ or_refused X H t x granted
 is_refused X H t x o why d granted k q e = let f = subst (IsRefusal X H t x) q k in ap (carried X H) e ∙ sym (f granted)
@@ -45,7 +45,7 @@ is_refused X H t x o why d granted k q e = let f = subst (IsRefusal X H t x) q k
 pub is_not_refused : (X : Store) (H : List Event) (t : ℕ) (x : Cell) (o : Option Refusal) (granted : Answered) → IsRefusal X H t x o → o ≡ None → or_refused X H t x granted ≡ granted
 is_not_refused X H t x o granted k q = let f = subst (IsRefusal X H t x) q k in f granted
 
--- what a session that holds nothing is answered
+-- the answers to a session that holds no transaction
 pub begins_unknown : (S : Setup) (H : List Event) (s : Session) (k : Spot) → ltb k.kind.0 S.types ≡ false → answer_new S H s (Begin k) ≡ refuse H UnknownType
 unfolding answer_new
 begins_unknown S H s k e = rw e refl
@@ -75,14 +75,14 @@ unfolding answer_new
 holds_nothing S H s (Begin k) f = absurd (f k refl)
 holds_nothing S H s _ f = refl
 
--- a scan that has no keys for its cells, or too many cells, and one that has
+-- a scan whose range of cells is invalid, and one whose range is valid
 pub out_of_range : (H : List Event) (x : Cell) (n : ℕ) (granted : Answered) → is_scan x n ≡ false → cond (is_scan x n) granted (refuse H Range) ≡ refuse H Range
 out_of_range H x n granted e = rw e refl
 
 pub in_range : (H : List Event) (x : Cell) (n : ℕ) (granted : Answered) → is_scan x n ≡ true → cond (is_scan x n) granted (refuse H Range) ≡ granted
 in_range H x n granted e = rw e refl
 
--- what a session is answered by what it holds
+-- the answer depends on what the session holds
 pub bad_session : (X : Store) (H : List Event) (s : Session) (r : Request) → (leb 1 s.0 && leb s.0 SESSIONS) ≡ false → answer X H s r ≡ refuse H BadSession
 unfolding answer
 bad_session X H s r b = rw b refl
@@ -116,7 +116,7 @@ pub running_held : (X : Store) (H : List Event) (s : Session) (r : Request) (t :
     → answer X H s r ≡ answer_of X H t.0 r
 running_held X H s r t b e a = good_session X H s r b ∙ ap (answer_to X H s r) (somebody_held H s t e) ∙ rw a refl
 
--- the answer to who asks, by what it looks at
+-- the answer to a session depends only on the view of the engine and on the transaction
 pub asked_of : {C : Type 0} {g : _} (p q : EngineView C g) (t u : Txn) (d : Decision) (r : Request) → p ≡ q → t ≡ u → carried (store_in p) (events_in p) d ≡ answer_of (store_in p) (events_in p) t.0 r
     → carried (store_in q) (events_in q) d ≡ answer_of (store_in q) (events_in q) u.0 r
 asked_of {C} {g} p q t u d r e k h =

@@ -1,4 +1,4 @@
--- An abort, one fallen transaction after the other.
+-- An abort: the transactions of its cascade fall one at a time.
 use Rattle.std.proofs.Common.{◌≡◌, ℕ, zero, suc, ◌+◌, ◌≤◌, true, List, [], ◌∷◌, length, map, drop, slice_get, Some, refl, sym, ap, ◌∙◌, subst, arith}
 use Rattle.teb_names.specs.declared.Cause.{Cause}
 use Rattle.teb_names.specs.declared.Cause.TheVariants.{After}
@@ -15,13 +15,13 @@ use Rattle.teb_laws.proofs.Cascades.{abort_good}
 use Rattle.abort_cascade.specs.Rounds.{blames}
 use Rattle.engine_core.specs.declared.engine_state.EngineState.{EngineState}
 
--- how far an abort of t has come: whom the state was at first, and what it is once i of those that fall with t have fallen
+-- progress of an abort of t: `first` is the state before it, `now` the state after i transactions of the cascade have fallen
 pub record HasFallen {C : Type 0} {g : _} (first now : EngineState C g) (t : ℕ) (c : Cause) (i : ℕ) : Type 0 where
   pub events : fall_in_turn first.history.events t (drop i (cascade first.history.events t)) now.history.events ≡ abort first.history.events t c
   pub setup : now.setup ≡ first.setup
   pub left : length (cascade first.history.events t) ≤ i + now.room
 
--- the i-th that falls
+-- p is the i-th transaction of the cascade, with the transaction that it blames
 pub record IsNext (H : List Event) (t i : ℕ) (p : Txn × Txn) : Type 0 where
   pub rest : drop i (cascade H t) ≡ p.0.0 ∷ drop (i + 1) (cascade H t)
   pub blame : p.1 ≡ txn (blamed H t p.0.0)
@@ -50,7 +50,7 @@ fall_unfinished : (S : Setup) (H : List Event) (t u : ℕ) (us : List ℕ) (P : 
 unfolding Lawful
 fall_unfinished S H t u us P l = (fall_before S H t us (Gone (txn u) (After (txn (blamed H t u))) ∷ P) (subst (Lawful S) (fall_cons H t u us P) l)).0
 
--- one more falls: it was unfinished
+-- the next transaction of the cascade is still unfinished
 pub next_unfinished : (S : Setup) (a : TreeFacts S) (H P : List Event) (t : ℕ) (c : Cause) (i : ℕ) (p : Txn × Txn) → Good S H → unfinished H t ≡ true
     → fall_in_turn H t (drop i (cascade H t)) P ≡ abort H t c → IsNext H t i p → unfinished P p.0.0 ≡ true
 next_unfinished S a H P t c i p g u e n = fall_unfinished S H t p.0.0 (drop (i + 1) (cascade H t)) P
@@ -63,7 +63,7 @@ next_events H P G t c i p e n q =
     ∙ sym (fall_cons H t p.0.0 (drop (i + 1) (cascade H t)) P)
     ∙ sym (ap (λ (us : List ℕ). fall_in_turn H t us P) n.rest) ∙ e
 
--- an abort before its first cascade member, and after its last
+-- the abort before the first transaction of its cascade falls, and after the last one
 pub first_events : (H G : List Event) (t : Txn) (c : Cause) → G ≡ Gone t c ∷ H → fall_in_turn H t.0 (drop 0 (cascade H t.0)) G ≡ abort H t.0 c
 unfolding abort
 first_events H G t c q = ap (fall_in_turn H t.0 (cascade H t.0)) q
@@ -79,7 +79,7 @@ last_events H G t c i n e = sym (ap (λ (us : List ℕ). fall_in_turn H t us G) 
         drop_whole [] = refl
         drop_whole (u ∷ us) = drop_whole us
 
--- whoever is aborted lawfully was unfinished
+-- a transaction that is lawfully aborted was unfinished
 pub abort_unfinished : (S : Setup) (H : List Event) (t : ℕ) (c : Cause) → Lawful S (abort H t c) → unfinished H t ≡ true
 unfolding abort Lawful
 abort_unfinished S H t c l = (fall_before S H t (cascade H t) (Gone (txn t) c ∷ H) l).0

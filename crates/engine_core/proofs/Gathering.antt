@@ -1,4 +1,4 @@
--- The cells of a scan, one after the other.
+-- The cells of a scan, read one at a time.
 use Rattle.std.proofs.Common.{◌≡◌, ℕ, suc, ◌+◌, ◌-◌, ◌<◌, ◌≤◌, false, List, [], ◌∷◌, ◌++◌, length, Option, ℤ, refl, sym, ◌∙◌, ap, ap₂, subst, arith, append_assoc, append-nil, length-append}
 use Rattle.teb_names.specs.declared.Cell.{Cell}
 use Rattle.teb_names.specs.declared.Txn.{Txn}
@@ -16,7 +16,7 @@ use Rattle.engine_core.specs.declared.engine_state.EngineState.{EngineState}
 use Rattle.store_setup.specs.Stores.{store_of}
 use Rattle.engine_core.specs.Cells.{cell_at}
 
--- the cells of a scan that are left after the first i
+-- the cells of a scan that remain after the first i
 abbrev pub rest_of : Cell → ℕ → ℕ → List Cell
 rest_of x n i = cells_from (cell_at x i) (n - i)
 
@@ -39,7 +39,7 @@ pub rest_none : (x : Cell) (n : ℕ) → rest_of x n n ≡ []
 unfolding cells_from
 rest_none x n = let q : n - n ≡ 0 = omega arith in ap (cells_from (cell_at x n)) q
 
--- the stop of a scan
+-- the stop of a scan is that of its first cell, or else that of the others
 stop_cons : (S : Setup) (H : List Event) (t : ℕ) (x : Cell) (xs : List Cell) → scan_stop S H t (x ∷ xs) ≡ or_stop_of (access_stop S H t x false) (scan_stop S H t xs)
 unfolding scan_stop
 stop_cons S H t x xs = refl
@@ -62,13 +62,13 @@ stops_here S H t x n i s h e g = ap (scan_stop S H t) (rest_more x n i h) ∙ st
     first (stop.Wait u n) r g = refl
     first (stop.Break n b) r g = refl
 
--- how far a scan has read: the values so far, and the history with their Gots
+-- progress of a scan after i cells: the values so far, and the history with their Gots
 pub record HasRead (X : Store) (H : List Event) (t : ℕ) (x : Cell) (n : ℕ) (values : List (Option ℤ)) (P : List Event) (i : ℕ) : Type 0 where
   pub found : (read_all X H t (cells_from x n)).0 ≡ values ++ (read_all X P t (rest_of x n i)).0
   pub events : (read_all X H t (cells_from x n)).1 ≡ (read_all X P t (rest_of x n i)).1
   pub count : length values ≡ i
 
--- a scan before its first read
+-- the scan before its first read
 pub read_none : (X : Store) (H : List Event) (t : ℕ) (x : Cell) (n : ℕ) → HasRead X H t x n [] H 0
 read_none X H t x n = record {
   found = ap (λ (cs : List Cell). (read_all X H t cs).0) (sym (rest_first x n));
@@ -99,14 +99,14 @@ read_one X H t x n values P G i from v r h e q =
       count = (let c = r.count in let z = length-append values (v ∷ []) in omega arith);
     }
 
--- a scan after its last read
+-- the scan after its last read
 pub read_whole : (X : Store) (H : List Event) (t : ℕ) (x : Cell) (n : ℕ) (values : List (Option ℤ)) (P : List Event) → HasRead X H t x n values P n
     → (values ≡ (read_all X H t (cells_from x n)).0) × (P ≡ (read_all X H t (cells_from x n)).1)
 unfolding read_all
 read_whole X H t x n values P r =
     (sym (r.found ∙ ap (λ (cs : List Cell). values ++ (read_all X P t cs).0) (rest_none x n) ∙ append-nil values), sym (r.events ∙ ap (λ (cs : List Cell). (read_all X P t cs).1) (rest_none x n)))
 
--- where the end of a scan is lawful, so is the history before it
+-- if the history after a scan is lawful, so is the history before it
 lawful_before : (X : Store) (H : List Event) (t : ℕ) (xs : List Cell) → Lawful X.setup (read_all X H t xs).1 → Lawful X.setup H
 unfolding read_all Lawful
 lawful_before X H t [] l = l
@@ -117,13 +117,13 @@ first_granted : (X : Store) (H : List Event) (t : ℕ) (x : Cell) (xs : List Cel
 unfolding read_all Lawful
 first_granted X H t x xs l = let r = read X.setup X.rows H t x in (lawful_before X (Got (txn t) x (txn r.0) r.1 ∷ H) t xs l).0
 
--- the next read of a scan; Y is the store as it stands then
+-- the next read of a scan; Y is the store at that point
 module _ (X Y : Store) (same : Y ≡ X) (H P : List Event) (t : Txn) (x : Cell) (n i : ℕ) (values : List (Option ℤ)) (r : HasRead X H t.0 x n values P i) (h : i < n) where
   granted_here : Lawful X.setup (read_all X H t.0 (cells_from x n)).1 → let w = read X.setup X.rows P t.0 (cell_at x i) in Granted X.setup P (Got t (cell_at x i) (txn w.0) w.1)
   granted_here l = first_granted X P t.0 (cell_at x i) (rest_of x n (i + 1))
       (subst (λ (cs : List Cell). Lawful X.setup (read_all X P t.0 cs).1) (rest_more x n i h) (subst (Lawful X.setup) r.events l))
 
-  -- the transaction may read
+  -- the transaction may read the next cell
   pub may_read : Lawful X.setup (read_all X H t.0 (cells_from x n)).1 → MayAccess X.setup P t.0 (cell_at x i) false
   may_read l = (granted_here l).0
 
@@ -142,13 +142,13 @@ module _ (X Y : Store) (same : Y ≡ X) (H P : List Event) (t : Txn) (x : Cell) 
         (subst (λ (w : ℕ). to X (cell_at x i) w v) (sym from_here)
         (subst (λ (u : Option ℤ). to X (cell_at x i) (read X.setup X.rows P t.0 (cell_at x i)).0 u) (sym value_here) (granted_here l))))
 
-    -- a scan after one more read
+    -- the scan after one more read
     pub read_next : (after : List (Option ℤ)) (G : List Event) → G ≡ Got t y from v ∷ P → after ≡ values ++ v ∷ [] → HasRead X H t.0 x n after G (i + 1)
     read_next after G q e =
         subst (λ (vs : List (Option ℤ)). HasRead X H t.0 x n vs G (i + 1)) (sym e)
         (read_one X H t x n values P G i from v r h (ap₂ (λ (w : ℕ) (u : Option ℤ). (w, u)) from_here value_here) (q ∙ ap (λ (z : Cell). Got t z from v ∷ P) c))
 
--- how far a scan has come: what the state was at first, and what it is once i cells are read
+-- progress of a scan: `first` is the state before it, `now` the state after i cells have been read
 pub record IsReading {C : Type 0} {g : _} (first now : EngineState C g) (t : ℕ) (x : Cell) (n : ℕ) (values : List (Option ℤ)) (i : ℕ) : Type 0 where
   pub read : HasRead (store_of first.setup) first.history.events t x n values now.history.events i
   pub setup : now.setup ≡ first.setup

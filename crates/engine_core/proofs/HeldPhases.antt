@@ -1,4 +1,4 @@
--- What the phase of a transaction says of it.
+-- What the phase of a transaction says about it.
 use Rattle.std.proofs.Common.{◌≡◌, ℕ, Bool, true, false, cond, not, ◌&&◌, List, refl, inl, inr}
 use Rattle.std.proofs.lemmas.Bool.{or_cases}
 use Rattle.teb_history.specs.declared.Event.{Event}
@@ -35,7 +35,7 @@ ready_phase H t e = go (committed H t) (aborted H t) (begun H t) (came H (ready_
     go false false true false e = absurd (cc)
     go false false true true e = (refl, refl)
 
--- who is in neither phase and live is aborted
+-- a live transaction that is neither running nor ready is aborted
 pub live_aborted : (H : List Event) (t : ℕ) → (phase_of H t ≡ phase.Running → ⊥) → (phase_of H t ≡ phase.Ready → ⊥) → is_live H t ≡ true → aborted H t ≡ true
 unfolding unfinished
 live_aborted H t f k l = elim (or_cases (unfinished H t) (untold H t) l) [ inl u ↦ absurd (other (committed H t) (aborted H t) (begun H t) (came H (ready_at H t)) f k u) | inr u ↦ untold_gone H t u ]

@@ -1,4 +1,4 @@
--- A session holds the transaction that it began last, or nothing.
+-- A session holds the transaction that it began last, or none.
 use Rattle.std.proofs.Common.{◌≡◌, ℕ, suc, ◌<◌, ◌≤◌, List, [], ◌∷◌, Bool, true, false, cond, eqb, Option, Some, None, eq-eqb, eqb-true, ne_eqb, refl, sym, ◌∙◌, ap, subst, inl, inr, arith}
 use Rattle.std.proofs.lemmas.Bool.{both_ways, cases_eq, and_parts, and_from, or_left}
 use Rattle.teb_names.specs.declared.Txn.{Txn}
@@ -16,7 +16,7 @@ use Rattle.teb_laws.proofs.Holding.{Holds, held_holds, none_holds, held_began, h
 use Rattle.teb_laws.proofs.Timeline.{begun_counted}
 use Rattle.engine_core.specs.Latest.{latest_txn}
 
--- it is one of those that have begun
+-- the session's latest transaction is one of those that have begun
 latest-begun : (S : Setup) (H : List Event) (s : ℕ) → Lawful S H → (latest_txn H s).0 ≤ begun_count H
 unfolding Lawful latest_txn begun_count
 latest-begun S [] s l = omega arith
@@ -32,7 +32,7 @@ latest-begun S (Done u ∷ P) s l = latest-begun S P s l.1
 latest-begun S (Gone u c ∷ P) s l = latest-begun S P s l.1
 latest-begun S (Told u ∷ P) s l = latest-begun S P s l.1
 
--- and the session began it
+-- the session's latest transaction was begun by that session
 latest-session : (S : Setup) (H : List Event) (s : ℕ) → Lawful S H → 0 < (latest_txn H s).0 → session_of H (latest_txn H s).0 ≡ s
 unfolding Lawful latest_txn session_of
 latest-session S [] s l h = absurd (omega arith)
@@ -60,7 +60,7 @@ held_before : (u : Txn) (c : Cause) (P : List Event) (s v : ℕ) → unfinished 
 unfolding session_of
 held_before u c P s v w h = and_from _ _ (and_parts _ _ h).0 (or_left (unfinished P v) (untold P v) w)
 
--- whatever a session holds is what it began last
+-- the transaction that a session holds is the one that it began last
 held-latest : (S : Setup) (H : List Event) (s v : ℕ) → Lawful S H → Holds H s v ≡ true → v ≡ (latest_txn H s).0
 unfolding Lawful latest_txn
 held-latest S [] s v l h = absurd (let z = held_began S [] s v l h in omega arith)
@@ -91,7 +91,7 @@ held-latest S (Told u ∷ P) s v l h = elim (cases_eq u.0 v) [
   | inr ne ↦ held-latest S P s v l.1 (sym (holds_told u.0 P s v ne) ∙ h)
 ]
 
--- what a session holds: what it began last, if that is live
+-- a session holds its latest transaction if that is live, and none otherwise
 pub held_txn-latest : (S : Setup) (H : List Event) (s : Session) → Lawful S H → held_txn H s ≡ cond (is_live H (latest_txn H s.0).0) (Some (latest_txn H s.0)) None
 held_txn-latest S H s l = go (is_live H (latest_txn H s.0).0) refl (held H s.0) refl
   where

@@ -1,4 +1,4 @@
--- Only a scan is answered with the values of a scan.
+-- Only a scan is answered with a scan's values.
 use Rattle.std.proofs.Common.{◌≡◌, ℕ, Bool, true, false, cond, ◌&&◌, leb, not, ltb, List, ◌∷◌, Option, Some, None, is_none, ℤ, subst}
 use Rattle.std.specs.Prelude.{◌+ℤ◌}
 use Rattle.teb_names.specs.declared.TheConstants.{MOST_TXNS, SESSIONS}
@@ -27,7 +27,7 @@ use Rattle.teb_rules.specs.declared.Stop.TheVariants.{Go, Wait, Break}
 use Rattle.teb_rules.specs.Answer.{Answered, refuse, or_stop, or_refused, got_value, put_value, added, add_base, fits, answer, answer_new, answer_of, answer_to, begin_or_wait}
 use Rattle.short_reply.specs.ShortReplies.{HasValues, IsNoScan}
 
--- the reply is without the values of a scan
+-- the reply has no scan values
 pub record IsPlain (a : Answered) : Type 0 where
   pub none : HasValues a.0 → ⊥
 
@@ -37,7 +37,7 @@ plain r H none = record { none = none }
 refuses : (H : List Event) (why : Refusal) → IsPlain (refuse H why)
 refuses H why = plain (Refused why) H (λ v. v)
 
--- of two answers
+-- a choice between two plain answers is plain
 either : (b : Bool) (a d : Answered) → IsPlain a → IsPlain d → IsPlain (cond b a d)
 either true a d p q = p
 either false a d p q = q
@@ -97,11 +97,11 @@ to_plain : (X : Store) (H : List Event) (s : Session) (r : Request) (o : Option 
 to_plain X H s r None h = new_plain X.setup H s r
 to_plain X H s r (Some t) h = either (aborted H t) _ _ (plain _ _ (λ v. v)) (of_plain X H t r h)
 
--- the answer to what is no scan
+-- the answer to a request other than a scan is plain
 plain_answer : (X : Store) (H : List Event) (s : Session) (r : Request) → IsNoScan r → IsPlain (answer X H s r)
 unfolding answer
 plain_answer X H s r h = either (leb 1 s.0 && leb s.0 SESSIONS) _ _ (to_plain X H s r (held H s.0) h) (refuses H BadSession)
 
--- what is no scan is not answered with what a scan comes to
+-- a request other than a scan is not answered with scan values
 pub no_scan : (X : Store) (H : List Event) (s : Session) (r : Request) (a : Answered) → IsNoScan r → HasValues a.0 → a ≡ answer X H s r → ⊥
 no_scan X H s r a h v e = (plain_answer X H s r h).none (subst (λ (b : Answered). HasValues b.0) e v)

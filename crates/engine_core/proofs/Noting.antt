@@ -21,7 +21,7 @@ use Rattle.phase_api.specs.Standing.{StandAll}
 use Rattle.engine_core.specs.Decisions.{MayBegin}
 use Rattle.engine_core.specs.Wholes.{RoomFor}
 
--- what stands at n, after b was put at i
+-- the element at n after b is written at i is b if n ≡ i, and the old one otherwise
 put_or_left : {K : Type 0} (cs : List K) (i : ℕ) (b : K) (n : ℕ) (c : K) → slice_get (set cs i b) n ≡ Some c → ((n ≡ i) × (c ≡ b)) ⊎ ((n ≢ i) × (slice_get cs n ≡ Some c))
 put_or_left [] i b n c e = absurd (cc)
 put_or_left (a ∷ cs) zero b zero c e = inl (refl, (cc))
@@ -29,7 +29,7 @@ put_or_left (a ∷ cs) zero b (suc n) c e = inr ((λ q. omega arith), e)
 put_or_left (a ∷ cs) (suc i) b zero c e = inr ((λ q. omega arith), e)
 put_or_left (a ∷ cs) (suc i) b (suc n) c e = elim (put_or_left cs i b n c e) [ inl p ↦ inl (ap suc p.0, p.1) | inr q ↦ inr ((λ r. q.0 (omega arith)), q.1) ]
 
--- of the controls, those below i came out as P says, each at its place, and those from i on are as they were
+-- the controls below i satisfy P at their places, and the others are unchanged
 pub record AreDone {K : Type 0} (P : ℕ → K → Type 0) (old new : List K) (i : ℕ) : Type 0 where
   pub len : length new ≡ length old
   pub done : (n : ℕ) (c : K) → n < i → slice_get new n ≡ Some c → P n c
@@ -49,17 +49,17 @@ module _ {K : Type 0} (P : ℕ → K → Type 0) where
 pub done_less : {K : Type 0} (P Q : ℕ → K → Type 0) (old new : List K) (i : ℕ) → ((n : ℕ) (c : K) → P n c → Q n c) → AreDone P old new i → AreDone Q old new i
 done_less P Q old new i f a = record { len = a.len; done = λ n c lt e. f n c (a.done n c lt e); left = a.left }
 
--- the next one is as it was
+-- the control at i is unchanged
 pub next_there : {K : Type 0} (P : ℕ → K → Type 0) (old new : List K) (i : ℕ) (d : K) → AreDone P old new i → i < length new → slice_get old i ≡ Some (get_or new i d)
 next_there P old new i d a lt = a.left i (get_or new i d) (omega arith) (slice_get-get_or new i d lt)
 
--- the control of node n, which has noted the newest event of H: of the room that all had, it took one place at the most
+-- the control of node n has noted the newest event of H and has used at most one place of the room that all had
 pub record HasNoted {K : Type 0} (node_number : K → ℕ) (stands : K → Setup → List Event → Type 0) (spare : K → ℕ) (S : Setup) (H : List Event) (old : List K) (n : ℕ) (c : K) : Type 0 where
   pub numbered : node_number c ≡ n
   pub stood : stands c S H
   pub room : (k : ℕ) → RoomFor spare (suc k) old → k ≤ spare c
 
--- the control of node n, which was made room in: it stands for what the one before it stood for
+-- the control at n after room was reserved: it represents every setup and history that the old one represented
 pub record IsRoomy {K : Type 0} (node_number : K → ℕ) (stands : K → Setup → List Event → Type 0) (old : List K) (n : ℕ) (c : K) : Type 0 where
   pub before : K
   pub there : slice_get old n ≡ Some before
@@ -67,7 +67,7 @@ pub record IsRoomy {K : Type 0} (node_number : K → ℕ) (stands : K → Setup 
   pub stood : (S : Setup) (H : List Event) → stands before S H → stands c S H
 
 module _ {K : Type 0} (node_number : K → ℕ) (stands : K → Setup → List Event → Type 0) (old new : List K) where
-  -- each came out so, or is as it was
+  -- each control was reserved room in, or is unchanged
   pub all_roomy : (i : ℕ) → AreDone (IsRoomy node_number stands old) old new i → (n : ℕ) (c : K) → slice_get new n ≡ Some c → IsRoomy node_number stands old n c
   all_roomy i a n c e = elim (cases_lt n i) [
     | inl lt ↦ a.done n c lt e
@@ -82,7 +82,7 @@ module _ {K : Type 0} (node_number : K → ℕ) (stands : K → Setup → List E
     each_stands = λ n c e. let r = f n c e in r.stood S H (a.each_stands n r.before r.there);
   }
 
--- where a Begin stops at no node, each node of the path lets it go
+-- if a Begin is stopped at no node, each node of the path lets it go
 free_here : (n : ℕ) (v : Verdict) (s : Stop) → stop_with n v s ≡ stop.Go → (v ≡ Go) × (s ≡ stop.Go)
 free_here n Go s h = (refl, h)
 free_here n (Wait u) s h = absurd (cc)
@@ -98,7 +98,7 @@ free_on_path : (S : Setup) (H : List Event) (s : Spot) (n : ℕ) → begin_stop 
 unfolding begin_stop on_path
 free_on_path S H s n g o = free_along (on_begin S H s) (path S.tree s) n g o
 
--- what the rules grant may be noted at each node
+-- an event that the rules grant may be noted at each node
 pub granted_noted : (S : Setup) (P : List Event) (e : Event) → Granted S P e → MayBegin S P e → (n : ℕ) → MayNote S P n e
 granted_noted S P (Began t s k i) g b n = (g.0, g.1, λ o. free_on_path S P (record { kind = k; instance = i }) n b.1 o)
 granted_noted S P (Got t x w v) g b n = (g.0.unfinished, g.0.step)
@@ -108,7 +108,7 @@ granted_noted S P (Done t) g b n = g.unfinished
 granted_noted S P (Gone t c) g b n = g
 granted_noted S P (Told t) g b n = g
 
--- what all controls are told by facts of this setup and history
+-- what the controls learn from facts about this setup and history
 module _ (f : Facts) (S : Setup) (H : List Event) (s : setup_of f ≡ S) (h : events_of f ≡ H) where
   pub told_newest : (e : Event) → H ≡ e ∷ drop 1 H → ((n : ℕ) → MayNote S (drop 1 H) n e) → (n : ℕ) → IsNewest f e n
   told_newest e q m n = record {

@@ -1,4 +1,4 @@
--- Whoever was read from still has its version.
+-- A transaction that was read from still has its version.
 use Rattle.std.proofs.Common.{ℕ, ◌≡◌, true, false, not, ◌&&◌, eqb, List, [], ◌∷◌, sym, subst, ◌∙◌, ◌⊎◌, inl, inr, eqb-true, filter}
 use Rattle.std.proofs.lemmas.Bool.{cases_Bool, and_parts, and_from, or_cases, or_left, or_right, not_from_false}
 use Rattle.std.specs.List.{list_any}
@@ -22,7 +22,7 @@ wrote_after : (e : Event) (P : List Event) (w : ℕ) (x : Cell) → wrote P w x 
 unfolding wrote put_at
 wrote_after e P w x h = came_any (is_put w x) (e ∷ P) ∙ or_right (is_put w x e) (list_any (is_put w x) P) (sym (came_any (is_put w x) P) ∙ h)
 
--- a Got is from the starting row, or from somebody who has put the cell
+-- a Got reads from the starting row or from a transaction that has put the cell
 got_wrote : (S : Setup) (P : List Event) (t : Txn) (x : Cell) (w : Txn) (v : _) → Granted S P (Got t x w v) → (w.0 ≡ 0) ⊎ (wrote P w.0 x ≡ true)
 got_wrote S P t x w v g = elim (read_case S P t.0 x w.0 g.1) [
   | from_own p e ↦ inr (subst (λ (u : ℕ). wrote P u x ≡ true) (sym e) p)
@@ -52,7 +52,7 @@ source_wrote S (e ∷ P) u w x l h =
       | inr b ↦ still (source_wrote S P u w x l.1 b)
     ]
 
--- who read from another
+-- a read by u from a different transaction w is a read from another transaction
 from_other : (u w : ℕ) (x : Cell) (e : Event) → eqb u w ≡ false → reads_from u x w e ≡ true → is_from u w e ≡ true
 from_other u w x (Got t y v c) n h =
     let a = and_parts (eqb t.0 u && same_cell y x) (eqb v.0 w) h in

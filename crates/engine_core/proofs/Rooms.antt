@@ -1,4 +1,4 @@
--- What room is left, and that all is whole after room was made.
+-- How much room is left; reserving room keeps the state whole.
 use Rattle.std.proofs.Common.{◌≡◌, ℕ, ◌≤◌, true, false, List, sym, ◌∙◌, ap, subst, arith}
 use Rattle.teb_names.specs.declared.Cell.{Cell}
 use Rattle.teb_names.specs.declared.Txn.{Txn}
@@ -14,7 +14,7 @@ use Rattle.engine_core.specs.declared.any_control.AnyControl.{AnyControl}
 use Rattle.engine_core.specs.AnyControls.{any_node_number, any_stands}
 use Rattle.engine_core.specs.Wholes.{IsWhole, RoomFor, HaveRoom}
 
--- less room
+-- room for k is room for any smaller number
 pub less_room : {K : Type 0} (spare : K → ℕ) (j k : ℕ) (cs : List K) → j ≤ k → RoomFor spare k cs → RoomFor spare j cs
 less_room spare j k cs h r = record { each = λ n c e. let a : k ≤ spare c = r.each n c e in omega arith }
 

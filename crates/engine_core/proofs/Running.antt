@@ -1,4 +1,4 @@
--- Transactions of a lawful history that are unfinished.
+-- Unfinished transactions of a lawful history.
 use Rattle.std.proofs.Common.{◌≡◌, ℕ, ◌<◌, ◌≤◌, true, List, IsFalse}
 use Rattle.std.proofs.lemmas.Bool.{and_parts, not-true}
 use Rattle.teb_history.specs.declared.Event.{Event}

@@ -1,4 +1,4 @@
--- A setup that a store can be set up with, and what is kept of an empty history.
+-- A setup that a store can have, and the kept state for an empty history.
 use Rattle.std.proofs.Common.{◌≡◌, ℕ, ◌≤◌, List, [], length, sym, ◌∙◌, subst, arith}
 use Rattle.teb_names.specs.declared.TheConstants.{MOST_TXNS}
 use Rattle.teb_names.specs.declared.Cell.{Cell}

@@ -19,7 +19,7 @@ use Rattle.candidate_reads.proofs.GoneVersions.{versions_removed}
 use Rattle.candidate_reads.specs.declared.placing.Place.{Place}
 use Rattle.engine_core.specs.Keeping.{PutsAt}
 
--- a place that holds something is within the list
+-- a place that holds a version is within the list
 pub place_within : (vs : List Version) (i w : ℕ) → slice_get (writers_of vs) i ≡ Some w → i < length vs
 place_within [] i w e = absurd (cc)
 place_within (v ∷ vs) zero w e = omega arith

@@ -16,7 +16,7 @@ use Rattle.commit_journal.proofs.Answered.{commits}
 use Rattle.commit_journal.proofs.Asked.{has_room, records_more}
 use Rattle.commit_journal.proofs.Replies.{outcome, records_same}
 
--- with the gate it takes no more than the bytes that are left
+-- with the gate byte, it takes no more than the bytes that are left
 pub body_fits : (X : Store) (H : List Event) (s : Session) (r : Request) (left : ℕ) (bytes : List ℕ) → 1 ≤ left → IsBodyFor X H s r bytes
     → (committing H s r ≡ None → bytes ≡ []) → (IsFull H left s r → ⊥) → length bytes + 1 ≤ left
 body_fits X H s r left bytes some body none fits = go (committing H s r) refl
@@ -25,7 +25,7 @@ body_fits X H s r left bytes some body none fits = go (committing H s r) refl
     go None e = omega (arith, some, ap length (none e))
     go (Some t) e = omega (arith, (body t e).1, has_room H left s r t e fits)
 
--- an answer that commits adds the record that the body spells
+-- an answer that commits adds the record whose body the bytes are
 pub record_added : (X Z : Store) (H L : List Event) (s : Session) (r : Request) (reply : Reply) (bytes : List ℕ) → reply ≡ (answer X H s r).0 → L ≡ (answer X H s r).1 → Z ≡ X → reply ≡ Committed
     → IsBodyFor X H s r bytes
     → (c : Record) × IsBody c bytes × (records_of Z.setup L ≡ records_of X.setup H ++ c ∷ [])

@@ -1,4 +1,4 @@
--- Why the next epoch does not begin.
+-- The causes for which the next epoch does not begin.
 use Rattle.std.proofs.Common.{◌≡◌, ℕ, ◌+◌, ◌*◌, ◌<◌, List, length, refl}
 use Rattle.store_setup.specs.declared.Setup.{Setup}
 use Rattle.engine_core.specs.EngineModel.{EngineModel}
@@ -10,7 +10,7 @@ use Rattle.engine_store.specs.Next.{IsCause, IsRefusal, MayFollow, as_next}
 use Rattle.engine_store.specs.declared.error.NextError.{NextError}
 use Rattle.engine_store.specs.declared.error.NextError.TheVariants.{Stopped, Again, Untold, OtherTables, Full, DiskFault, OutOfMemory}
 
--- what stands against an engine stands against the next epoch
+-- the refusal of an engine is a cause
 pub engine_cause : (l : Layout) (e : EngineModel) (tables : List (List ℕ)) (why : NextError) → IsRefusal e tables why → IsCause l e tables why
 engine_cause l e tables Stopped r = absurd r
 engine_cause l e tables (Again t) r = r
@@ -20,7 +20,7 @@ engine_cause l e tables OutOfMemory r = r
 engine_cause l e tables Full r = absurd r
 engine_cause l e tables DiskFault r = absurd r
 
--- and so does what stands against its checkpoint
+-- and so is an error of its checkpoint
 pub checkpoint_cause : (l : Layout) (s : Setup) (e f : EngineModel) (tables : List (List ℕ)) (why : CheckpointError) → MayFollow e tables → IsStarted s e f
     → (why ≡ checkpoint.Full → half_size l.capacity < 10 + length l.label + 14 * length f.store.rows) → IsCause l e tables (as_next why)
 checkpoint_cause l s e f tables checkpoint.Full may i full = (may, record { rows = f.store.rows; final = i.rows; long = full refl })

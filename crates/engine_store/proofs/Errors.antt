@@ -1,4 +1,4 @@
--- Errors of a journal as those of a store.
+-- Errors of a journal as errors of a store.
 use Rattle.std.proofs.Common.{◌≡◌, ℕ}
 use Rattle.epoch_journal.specs.declared.error.OpenError.{OpenError as JournalError}
 use Rattle.epoch_journal.specs.declared.error.OpenError.TheVariants as journal
@@ -47,6 +47,6 @@ was_fault journal.OtherCapacity is = absurd (cc is)
 was_fault journal.OtherLabel is = absurd (cc is)
 was_fault journal.OutOfMemory is = absurd (cc is)
 
--- a fault of the disk stays one
+-- a disk fault stays one
 pub is_fault : (e : JournalError) → e ≡ journal.DiskFault → as_open e ≡ store.DiskFault
 is_fault e is = cc

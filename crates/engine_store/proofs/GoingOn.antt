@@ -1,4 +1,4 @@
--- The present epoch goes on.
+-- The present epoch continues.
 use Rattle.std.proofs.Common.{◌≡◌, List, Option, Some, None}
 use Rattle.teb_names.specs.declared.Session.{Session}
 use Rattle.teb_names.specs.declared.Request.{Request}
@@ -10,7 +10,7 @@ use Rattle.tree_switch.proofs.GoingOn.{further}
 use Rattle.tree_switch.proofs.Starting.{asked, same_events}
 use Rattle.epoch_store.specs.Told.{events_after}
 
--- after a request, whether it was asked or not
+-- after a request, whether or not it was asked
 pub goes_on : (past : List EngineModel) (e f : EngineModel) (s : Session) (r : Request) (o : Option Reply) → f.store ≡ e.store → f.names ≡ e.names
     → f.events ≡ events_after o e.events (answer e.store e.events s r).1
     → IsCourse (record { past = past; present = e }) → IsCourse (record { past = past; present = f })

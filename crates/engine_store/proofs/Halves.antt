@@ -1,4 +1,4 @@
--- The two halves of a store: what a journal keeps of the commits that wait.
+-- The two sides of a store: what its journal keeps, and the commits that wait.
 use Rattle.std.proofs.Common.{◌≡◌, ◌+◌, ℕ, List, [], ◌++◌, length, Err, refl, sym, ◌∙◌, ap, subst, arith, length-append}
 use Rattle.std.specs.Prelude.{IsErrOf}
 use Rattle.std.proofs.lemmas.List.{append-nil}
@@ -23,7 +23,7 @@ use Rattle.engine_store.specs.Telling.{TellsCommits}
 pub since_same : (X Z : Store) (H G : List Event) (rs : List Record) → Z ≡ X → records_of Z.setup G ≡ records_of X.setup H ++ rs → AreCommitsSince Z H G rs
 since_same X Z H G rs same is = is ∙ ap (λ (Y : Store). records_of Y.setup H ++ rs) (sym same)
 
--- none since this history
+-- there are no commits since this history
 pub none_since : (X : Store) (H : List Event) (rs : List Record) → rs ≡ [] → AreCommitsSince X H H rs
 none_since X H rs none = sym (append-nil (records_of X.setup H)) ∙ ap (λ (qs : List Record). records_of X.setup H ++ qs) (sym none)
 
@@ -31,7 +31,7 @@ count_since : (X : Store) (H G : List Event) (rs : List Record) → AreCommitsSi
 count_since X H G rs since = omega (arith, length-records X.setup G, length-records X.setup H, ap length since, length-append (records_of X.setup H) rs)
 
 module _ {D : Type 0} (seen : D → List ℕ) (may_leave : D → List ℕ → Type 0) where
-  -- all of them were written
+  -- all waiting commits were written
   pub written : (X : Store) (H G : List Event) (rs : List Record) (old new : JournalState D) → AreCommitsSince X H G rs → KeepsCommits seen may_leave X H (commit_count H) old
       → Keeps seen may_leave (row_of X.rows) (records_of X.setup H ++ rs) (commit_count H + length rs) new → new.acknowledged ≡ old.acknowledged + length rs
       → KeepsCommits seen may_leave X G (commit_count G) new
@@ -42,7 +42,7 @@ module _ {D : Type 0} (seen : D → List ℕ) (may_leave : D → List ℕ → Ty
         acknowledged = omega (arith, count, was.acknowledged, all);
       }
 
-  -- the disk failed, or it was not asked
+  -- the disk failed, or was not called
   pub not_written : (why : WriteError) (X : Store) (H G : List Event) (n : ℕ) (rs : List Record) (old mid new : JournalState D) → AreCommitsSince X H G rs → KeepsCommits seen may_leave X H n old
       → (IsErrOf {T = Unit {0}} (Err why) DiskFault → Keeps seen may_leave (row_of X.rows) (records_of X.setup H ++ rs) n mid × (mid.acknowledged ≡ old.acknowledged))
       → ((why ≡ DiskFault → ⊥) → mid ≡ old)
@@ -70,12 +70,12 @@ module _ {D : Type 0} (seen : D → List ℕ) (may_leave : D → List ℕ → Ty
           given (subst (λ (qs : List Record). Keeps seen may_leave (row_of X.rows) qs n new) (append-nil (records_of X.setup H ++ rs))
           (stop (row_of X.rows) (records_of X.setup H ++ rs) [] n failed.0)) failed.1
 
-  -- an epoch that begins
+  -- an epoch begins
   pub begins_empty : (X Z : Store) (j : JournalState D) → Z ≡ X → Keeps seen may_leave (row_of X.rows) [] 0 j → j.acknowledged ≡ 0 → KeepsCommits seen may_leave Z [] 0 j
   unfolding records_of
   begins_empty X Z j same keeps count = record { keeps = subst (λ (Y : Store). Keeps seen may_leave (row_of Y.rows) [] 0 j) (sym same) keeps; acknowledged = count }
 
-  -- one that does not
+  -- an epoch continues
   pub keeps_on : (X : Store) (H : List Event) (n : ℕ) (old new : JournalState D) → KeepsCommits seen may_leave X H n old → Keeps seen may_leave (row_of X.rows) (records_of X.setup H) n new
       → new.acknowledged ≡ old.acknowledged
       → KeepsCommits seen may_leave X H n new

@@ -1,4 +1,4 @@
--- Labels: of the first names and one more, and of different names.
+-- Labels: one more name extends a label, and different names have different labels.
 use Rattle.std.proofs.Common.{◌≡◌, ℕ, zero, suc, ◌+◌, true, List, [], ◌∷◌, ◌++◌, ◌&&◌, take, Some, slice_get, refl, ap, sym, subst, ◌∙◌, append_assoc, add-one}
 use Rattle.std.specs.List.{list_all}
 use Rattle.std.proofs.lemmas.List.{append-nil}

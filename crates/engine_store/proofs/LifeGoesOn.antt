@@ -1,4 +1,4 @@
--- A life goes on: the present epoch comes further, or another one follows it.
+-- A life continues: the present epoch advances, or another one follows it.
 use Rattle.std.proofs.Common.{◌≡◌, ◌≤◌, ℕ, List, [], ◌∷◌, ◌++◌, Option, Some, None, refl, sym, ◌∙◌, ap, subst, le_refl}
 use Rattle.teb_names.specs.declared.Cell.{Cell}
 use Rattle.teb_names.specs.declared.Session.{Session}
@@ -25,21 +25,21 @@ use Rattle.engine_store.proofs.WholeLife.{all_kept}
 pub lawful_of : (X : Store) (H : List Event) → IsSound X.setup → IsReached X H → Lawful X.setup H
 lawful_of X H = law_of (λ Y G. Lawful Y.setup G) (λ Y sound asked. (run_good Y (tree_facts Y.setup sound) sound.profiles asked [] (empty_good Y.setup)).legal) X H
 
--- the epoch of an engine, as far as it was kept
+-- the epoch of an engine, with the commits that were kept
 pub is_epoch : (k : ℕ) (e : EngineModel) → IsOfEngine e → k ≤ commit_count e.events → IsEpoch (epoch_with k e)
 is_epoch k e i few = record { few = few; sound = i.sound; lawful = lawful_of e.store e.events i.sound i.reached; reads = reads_reached e.store e.events i.reached }
 
--- the last epoch, as another one that started with the same store
+-- the last epoch may be replaced by one that started with the same store
 another : (T : Values) (past : List Epoch) (e f : Epoch) → f.store ≡ e.store → IsEpoch f → LivesOn T (past ++ e ∷ []) → LivesOn T (past ++ f ∷ [])
 another T [] e f same i l = (i, λ x. ap (λ (X : Store). row_of X.rows x) same ∙ l.1 x, tt)
 another T (d ∷ past) e f same i l = (l.0, l.1, another (left_by d) past e f same i l.2)
 
--- one epoch more
+-- one more epoch
 one_more : (T : Values) (past : List Epoch) (e f : Epoch) → IsEpoch f → ((x : Cell) → row_of f.store.rows x ≡ left_by e x) → LivesOn T (past ++ e ∷ []) → LivesOn T ((past ++ e ∷ []) ++ f ∷ [])
 one_more T [] e f i rows l = (l.0, l.1, (i, rows, tt))
 one_more T (d ∷ past) e f i rows l = (l.0, l.1, one_more (left_by d) past e f i rows l.2)
 
--- the engine after a request, whether it was asked or not
+-- the engine after a request, whether or not it was asked
 pub asked_engine : (e f : EngineModel) (s : Session) (r : Request) (o : Option Reply) → f.store ≡ e.store → f.events ≡ events_after o e.events (answer e.store e.events s r).1 → IsOfEngine e
     → IsOfEngine f
 asked_engine e f s r o store events i = record {
@@ -58,7 +58,7 @@ lives_further T past e f s r o store events life =
     let i = asked_engine e f s r o store events life.engine in
     record { engine = i; on = another T past (epoch_of e) (epoch_of f) store (is_epoch (commit_count f.events) f i (le_refl _)) life.on }
 
--- an engine that starts with the rows that the first commits of the present one left
+-- an engine starts with the rows that the first k commits of the present one left
 pub reopened : (T : Values) (past : List Epoch) (e f : EngineModel) (k : ℕ) → k ≤ commit_count e.events → IsOfEngine f → ((x : Cell) → row_of f.store.rows x ≡ rows_after e.store e.events k x)
     → IsLife T (record { past = past; present = e }) → IsLife T (record { past = past ++ epoch_with k e ∷ []; present = f })
 reopened T past e f k few i rows life = record {

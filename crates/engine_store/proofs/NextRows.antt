@@ -1,4 +1,4 @@
--- What a crash leaves while the next epoch begins, as the rows that it begins with.
+-- What a crash leaves while the next epoch begins, in terms of the rows that it begins with.
 use Rattle.std.proofs.Common.{◌≡◌, ℕ, Bool, true, false, Result, Ok, Err, List, [], ◌∷◌, length, take, refl, sym, ◌∙◌, ap, subst, arith}
 use Rattle.std.proofs.lemmas.List.{take_all}
 use Rattle.teb_names.specs.declared.Cell.{Cell}

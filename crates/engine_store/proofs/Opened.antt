@@ -1,4 +1,4 @@
--- A store that begins with what was read.
+-- A store that begins with the rows that were read.
 use Rattle.std.proofs.Common.{◌≡◌, ℕ, false, List, [], take, ℤ, sym, ◌∙◌, ap, subst}
 use Rattle.teb_names.specs.declared.Cell.{Cell}
 use Rattle.teb_names.specs.Rows.{row_of, IsAscending}

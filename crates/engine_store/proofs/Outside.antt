@@ -1,4 +1,4 @@
--- Rows, of which one is not of the first tables.
+-- Rows of which one is not of the first tables.
 use Rattle.std.proofs.Common.{ℕ, zero, suc, ◌<◌, ◌≤◌, List, [], ◌∷◌, length, Bool, true, false, cond, Some, ℤ, refl, ap, get_or, arith}
 use Rattle.std.specs.Prelude.{IsSome, is_some, Option}
 use Rattle.teb_names.specs.declared.Cell.{Cell}

@@ -25,7 +25,7 @@ rose_later : (a b c : ℕ) → a ≤ b → Rose b c → Rose a c
 rose_later a b c later rose = omega (arith, later, rose)
 
 module _ {D : Type 0} (seen : D → List ℕ) (may_leave : D → List ℕ → Type 0) (moment : D → ℕ) (left_since : D → ℕ → List ℕ → Type 0) (faults capacity : D → ℕ) where
-  -- a disk to which no call was made
+  -- no call was made to the disk
   pub untouched : (disk : D) → ((c : List ℕ) → left_since disk (moment disk) c → may_leave disk c) → IsQuiet seen may_leave moment left_since faults capacity disk disk
   untouched disk now = record {
     same = refl;
@@ -53,7 +53,7 @@ module _ {D : Type 0} (seen : D → List ℕ) (may_leave : D → List ℕ → Ty
     any_moment_on = λ first all least tell. quiet_moment disk back (TellsOn l first all least) quiet tell;
   }
 
-  -- the disk was not read
+  -- the journal was not read
   pub not_read : (l : Layout) (start : Values) (tables : ℕ) (disk back : D) (e : JournalError)
       → ((at : ℕ) → e ≡ journal.Damaged at → IsDamaged l at (seen disk))
       → (e ≡ journal.OtherCapacity → HasOtherCapacity l (seen disk))
@@ -79,7 +79,7 @@ module _ {D : Type 0} (seen : D → List ℕ) (may_leave : D → List ℕ → Ty
     quiet_to : (back : D) → back ≡ d.disk → IsQuiet seen may_leave moment left_since faults capacity disk back
     quiet_to back same = subst (λ (x : D). IsQuiet seen may_leave moment left_since faults capacity disk x) (sym same) was.quiet
 
-    -- it has a row of another table
+    -- the disk has a row of another table
     pub foreign : (back : D) (why : OpenError) → back ≡ d.disk → HasRowOutside tables (row_of d.rows) → why ≡ store.Damaged (half_found_at d.layout.capacity d.current)
         → IsRefused seen may_leave moment left_since faults capacity l start tables disk back why
     foreign back why same out because =

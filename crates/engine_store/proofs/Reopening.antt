@@ -1,4 +1,4 @@
--- A disk that a crash has left is opened again.
+-- A disk that a crash left is opened again.
 use Rattle.std.proofs.Common.{◌≡◌, ◌⊎◌, inl, inr, ⊎_elim, ℕ, List, take, Option, ℤ, refl, sym, ◌∙◌, ap, subst}
 use Rattle.std.specs.Prelude.{IsSome}
 use Rattle.teb_rules.specs.Replay.{Values}
@@ -12,7 +12,7 @@ use Rattle.engine_store.specs.declared.open_error.OpenError.{OpenError}
 use Rattle.engine_store.specs.declared.open_error.OpenError.TheVariants as store
 use Rattle.engine_store.specs.Opening.{AllTellOn, HasForeignRow, HasRowOutside, IsRefused}
 
--- a row of another table that was read is one that the records left
+-- if a row of another table was read, the records left one
 left_outside : (l : Layout) (first start : Values) (all : List Record) (least tables at : ℕ) (file : List ℕ) → (on : TellsOn l first all least file) → HasForeignRow l start tables at file
     → HasRowOutside tables (after_records (take on.tells.k all) first)
 left_outside l first start all least tables at file on row =
@@ -26,7 +26,7 @@ left_outside l first start all least tables at file on row =
     (x, subst (λ (v : Option ℤ). IsSome v) left row.foreign.1, row.foreign.2)
 
 module _ {D : Type 0} (seen : D → List ℕ) (may_leave : D → List ℕ → Type 0) (moment : D → ℕ) (left_since : D → ℕ → List ℕ → Type 0) (faults capacity : D → ℕ) where
-  -- it is refused if the disk fails or memory is out, and for no other reason
+  -- the disk is refused only if it fails or memory is out
   pub reopens : (l : Layout) (start : Values) (tables : ℕ) (disk back : D) (why : OpenError) → may_leave disk (seen disk)
       → IsRefused seen may_leave moment left_since faults capacity l start tables disk back why
       → (first : Values) (all : List Record) (least : ℕ) → AllTellOn may_leave l first all least disk → ((k : ℕ) → HasRowOutside tables (after_records (take k all) first) → ⊥)

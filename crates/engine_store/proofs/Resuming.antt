@@ -1,4 +1,4 @@
--- What is opened goes on with what a disk tells.
+-- A store that is opened continues from what its disk tells.
 use Rattle.std.proofs.Common.{◌≡◌, ◌≤◌, ℕ, List, [], ◌∷◌, ◌++◌, ◌∙◌, ap, arith, inr, refl, le_refl, ℤ}
 use Rattle.std.proofs.lemmas.List.{take_all}
 use Rattle.teb_names.specs.declared.Cell.{Cell}
@@ -22,14 +22,14 @@ use Rattle.engine_store.specs.Telling.{EmptyDisksTell}
 use Rattle.engine_store.proofs.LifeGoesOn.{is_epoch, lawful_of, reopened}
 
 module _ {D : Type 0} (seen : D → List ℕ) (may_leave : D → List ℕ → Type 0) (j : JournalState D) (rows : List (Cell × ℤ)) (least : ℕ) where
-  -- rows that the first records leave are those that the first commits leave
+  -- the rows that the first records leave are those that the first commits leave
   pub found_commits : (X : Store) (H : List Event) → IsSound X.setup → Lawful X.setup H → GoesOn seen may_leave (row_of X.rows) (records_of X.setup H) least rows j
       → (k : ℕ) × (least ≤ k) × (k ≤ commit_count H) × ((x : Cell) → row_of rows x ≡ rows_after X H k x)
   found_commits X H sound lawful on =
       let few : on.k ≤ commit_count H = omega (arith, on.no_more, length-records X.setup H) in
       (on.k, on.no_fewer, few, λ x. on.left x ∙ records_leave_the_rows X H sound lawful on.k few x)
 
-  -- of no record, they are the first ones
+  -- if there are no records, they are the starting rows
   pub found_first : (T : Values) → GoesOn seen may_leave T [] least rows j → (x : Cell) → row_of rows x ≡ T x
   found_first T on x = on.left x ∙ ap (λ (rs : List Record). after_records rs T x) (take_all on.k [] (omega arith))
 
@@ -46,7 +46,7 @@ life_reopened seen may_leave j least T past e f is life on =
 pub life_begun : (T : Values) (e : EngineModel) → IsOfEngine e → ((x : Cell) → row_of e.store.rows x ≡ T x) → IsLife T (record { past = []; present = e })
 life_begun T e i rows = record { engine = i; on = (is_epoch (commit_count e.events) e i (le_refl _), rows, tt) }
 
--- on an empty disk
+-- an empty disk tells of no records
 pub empty_disks_tell : EmptyDisksTell
 empty_disks_tell l start file short = record {
   k = 0;

@@ -18,7 +18,7 @@ use Rattle.engine_core.specs.EngineModel.{EngineModel}
 use Rattle.tree_switch.specs.Starts.{IsStarted}
 use Rattle.tree_switch.proofs.Starting.{whole_with}
 
--- a setup without rows, and one that starts under it, starts under the setup with its rows
+-- a whole setup stays whole without its rows, and an engine that starts under it starts under the setup with its rows
 pub whole_without : (s t : Setup) → IsWhole (setup_view s) → t.names ≡ s.names → t.profiles.items ≡ s.profiles.items → t.tree ≡ s.tree → t.rows ≡ [] → IsWhole (setup_view t)
 whole_without s t w names profiles tree none =
     whole_with s t w names profiles tree
@@ -34,7 +34,7 @@ started_with s t before e names profiles tree i = record {
   rows = i.rows;
 }
 
--- its rows are those that the records of the epoch before leave
+-- its rows are those that the records of the previous epoch leave
 pub starts_with_records : (s : Setup) (before e : EngineModel) → IsSound before.store.setup → Lawful before.store.setup before.events → IsStarted s before e
     → (x : Cell) → row_of e.store.rows x ≡ after_records (records_of before.store.setup before.events) (row_of before.store.rows) x
 starts_with_records s before e sound lawful i x = i.rows.each x ∙ sym (records_final before.store (tree_facts before.store.setup sound) before.events lawful x)

@@ -29,7 +29,7 @@ IsRight e = Serializes e.store (kept_events e) (kept_order e)
 abbrev order_of : Epoch → Order
 order_of e = map (λ t. (kept_events e, t)) (kept_order e)
 
--- one epoch leads from the table with which it starts to the one that its kept commits leave
+-- an epoch leads from the table with which it starts to the one that its kept commits leave
 module _ (T : Values) (e : Epoch) (i : IsEpoch e) (same : (x : Cell) → row_of e.store.rows x ≡ T x) where
   run : IsOfSerialRun e.store e.events e.kept
   run = first_commits_serialize e.store e.events i.sound i.lawful i.reads e.kept
@@ -70,7 +70,7 @@ lives_are_serial T life l = record {
   each = each_right T life l;
 }
 
--- where all commits are kept, they leave the final table
+-- if all commits are kept, they leave the final table
 pub all_kept : (X : Store) (H : List Event) → IsSound X.setup → Lawful X.setup H → (x : Cell) → rows_after X H (commit_count H) x ≡ final_table X H x
 all_kept X H sound lawful x =
     sym (records_leave_the_rows X H sound lawful (commit_count H) (le_refl _) x)

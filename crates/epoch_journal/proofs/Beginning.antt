@@ -1,4 +1,4 @@
--- The first epoch after a reading.
+-- The first epoch after recovery.
 use Rattle.std.proofs.Common.{◌≡◌, inl, inr, ⊎_elim, ℕ, ◌+◌, ◌*◌, ◌<◌, ◌≤◌, List, [], ◌∷◌, length, take, sym, subst, ◌∙◌, ap}
 use Rattle.std.proofs.lemmas.List.{append-nil, length-take-le}
 use Rattle.teb_names.specs.declared.Cell.{Cell}
@@ -17,7 +17,7 @@ use Rattle.epoch_journal.proofs.Telling.{checkpoint_rows, runs, same_list}
 use Rattle.epoch_journal.proofs.Settling.{at_has}
 use Rattle.epoch_journal.proofs.Room.{rows_fit}
 
--- the old records, or the checkpoint of what they left
+-- a disk with the old records, or with the checkpoint of what they left, tells the same records
 pub tells_again : {D : Type 0} (seen : D → List ℕ) (may_leave : D → List ℕ → Type 0) (start : Values) (all : List Record) (least k : ℕ) (d : RecoveredState D)
     → (found : HasFound seen may_leave start all least k d) → (c : List ℕ)
     → HasOneOf d.layout found.list (checkpoint_of d.rows ∷ []) c → Tells d.layout start all least c
@@ -48,7 +48,7 @@ tells_on_again seen may_leave start all least k d found begun c (inr new) = reco
   begun = tt;
 }
 
--- what was found of a disk with a checkpoint, of the same disk under another name
+-- what was found of a disk with a checkpoint holds of an equal disk
 pub begun_found : {D : Type 0} (seen : D → List ℕ) (may_leave : D → List ℕ → Type 0) (start : Values) (all : List Record) (least k : ℕ) (d e : RecoveredState D) → d ≡ e
     → (found : HasFound seen may_leave start all least k e) → IsBegun found.list
     → (same : HasFound seen may_leave start all least k d) × IsBegun same.list
@@ -70,7 +70,7 @@ begun_keeps seen may_leave start all least k d found j below resting durable =
       durable = durable;
     })
 
--- a disk that tells records, and what was read of it
+-- what was found of a disk that tells records, from what was read of it
 pub found_of : {D : Type 0} (seen : D → List ℕ) (may_leave : D → List ℕ → Type 0) (start : Values) (all : List Record) (least : ℕ) (file : List ℕ) (d : RecoveredState D)
     → (t : Tells d.layout start all least file) → (rs : List Record)
     → IsReadAs d.layout rs file → ((x : Cell) → row_of d.rows x ≡ table_of start rs x) → IsCurrently d.layout.capacity d.current file → seen d.disk ≡ file → Only (seen d.disk) (may_leave d.disk)
@@ -88,7 +88,7 @@ found_of seen may_leave start all least file d t rs read rows current same durab
       durable = durable;
     }
 
--- so too a disk with a checkpoint, whatever rows it was read with
+-- so too of a disk with a checkpoint, whatever starting rows it was read with
 pub found_on_of : {D : Type 0} (seen : D → List ℕ) (may_leave : D → List ℕ → Type 0) (first start : Values) (all : List Record) (least : ℕ) (file : List ℕ) (d : RecoveredState D)
     → TellsOn d.layout first all least file → (rs : List Record)
     → IsReadAs d.layout rs file → ((x : Cell) → row_of d.rows x ≡ table_of start rs x) → IsCurrently d.layout.capacity d.current file → seen d.disk ≡ file → Only (seen d.disk) (may_leave d.disk)
@@ -99,7 +99,7 @@ found_on_of seen may_leave first start all least file d on rs read rows current 
     let begun = subst IsBegun (sym (read_same d.layout t.stands.list rs file t.stands.has read)) on.begun in
     (t.k, found_of seen may_leave first all least file d t rs read (λ x. rows x ∙ same_list start first rs x begun) current same durable, on.begun)
 
--- and its rows fit the other half
+-- and a checkpoint of its rows fits in the other half
 pub finds_room : {D : Type 0} (seen : D → List ℕ) (may_leave : D → List ℕ → Type 0) (start : Values) (all : List Record) (least k : ℕ) (d : RecoveredState D)
     → (found : HasFound seen may_leave start all least k d) → IsBegun found.list
     → IsAscending d.rows → 10 + length d.layout.label + 14 * length d.rows ≤ half_size d.layout.capacity

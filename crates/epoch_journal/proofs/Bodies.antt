@@ -1,4 +1,4 @@
--- What the bytes of records that are added together spell.
+-- The bytes of records that are added together.
 use Rattle.std.proofs.Common.{◌≡◌, ℕ, ◌+◌, ◌-◌, ◌<◌, ◌≤◌, List, [], ◌∷◌, ◌++◌, length, drop, None, refl, sym, ◌∙◌, ap, subst, arith, append_assoc, length-append}
 use Rattle.std.specs.List.{AllByRecursion}
 use Rattle.std.proofs.lemmas.List.{append-nil, set_at}
@@ -17,7 +17,7 @@ pub all_append : {X : Type 0} (P : X → Type 0) (xs ys : List X) → AllByRecur
 all_append P [] ys all others = others
 all_append P (x ∷ xs) ys all others = (all.0, all_append P xs ys all.1 others)
 
--- a record takes a byte at least
+-- a record takes at least one byte
 pub few_records : (rs : List Record) → length rs ≤ length (records rs)
 few_records [] = omega arith
 few_records (r ∷ rs) = omega (arith, length-append (body_of r) (records rs), few_records rs)
@@ -26,7 +26,7 @@ pub length-bodies : (rs : List Record) (bytes : List ℕ) → AreBodies rs bytes
 length-bodies [] bytes are = ap length are.is
 length-bodies (r ∷ rs) bytes are = omega (arith, ap length are.is, length-append (body_of r ++ records rs) (0 ∷ []))
 
--- behind a commit mark
+-- a commit mark and the bodies are the records and an end mark
 pub marked_bodies : (rs : List Record) (bytes : List ℕ) → AreBodies rs bytes → 0 < length bytes → 1 ∷ bytes ≡ records rs ++ 0 ∷ []
 marked_bodies [] bytes are some = absurd (omega (arith, ap length are.is))
 marked_bodies (r ∷ rs) bytes are some = ap (λ (l : List ℕ). 1 ∷ l) are.is
@@ -41,7 +41,7 @@ no_record : record_of [] ≡ None
 unfolding record_of
 no_record = refl
 
--- the bytes tell the records
+-- reading the bytes gives back the records
 pub records_told : (rs : List Record) (bytes : List ℕ) → AreBodies rs bytes → records_in bytes ≡ rs
 unfolding records_in
 records_told [] bytes are = ap (λ (l : List ℕ). whole_of (reading 0 0 (1 ∷ l))) are.is ∙ ap whole_of (damaged [] 0 [] (reading 0 0 (1 ∷ [])) no_record refl)
@@ -57,7 +57,7 @@ records_told (r ∷ rs) bytes are =
 pub told_again : (rs : List Record) (bytes : List ℕ) → AreBodies rs bytes → AreBodies (records_in bytes) bytes
 told_again rs bytes are = subst (λ (q : List Record). AreBodies q bytes) (sym (records_told rs bytes are)) are
 
--- a record more: its body behind the others
+-- one more record: its body after the others
 pub pushed_body : (rs : List Record) (r : Record) (bytes body more : List ℕ) → AreBodies rs bytes → IsBody r body → more ≡ opened bytes ++ body → AreBodies (rs ++ r ∷ []) more
 pushed_body rs r bytes body more are is_body is = record { fit = all_push RecordFits rs r are.fit is_body.fits; is = is ∙ spelled rs are }
   where

@@ -1,4 +1,4 @@
--- Errors of a reading, as those of an opening.
+-- Recovery errors as errors of opening.
 use Rattle.std.proofs.Common.{◌≡◌, ℕ, Result, Ok, Err, sym, ◌∙◌}
 use Rattle.std.specs.Result.{IsErrAnd, IsErrOf}
 use Rattle.record_journal.specs.declared.error.RecoverError.{RecoverError}
@@ -33,7 +33,7 @@ not_full reading.DiskFault is = cc is
 not_full (reading.Damaged k) is = cc is
 not_full reading.OutOfMemory is = cc is
 
--- the error that `?` hands on
+-- the error that `?` passes on is that of the result
 pub same_damaged : {X : Type 0} (r : Result X RecoverError) (e : RecoverError) (at : ℕ) → IsErrAnd r (λ x. x ≡ e) → IsErrOf r (reading.Damaged at) → e ≡ reading.Damaged at
 same_damaged (Ok x) e at was is = absurd was
 same_damaged (Err x) e at was is =

@@ -1,4 +1,4 @@
--- What a write leaves of the bytes that are not in its range.
+-- What a write leaves of the bytes outside its range.
 use Rattle.std.proofs.Common.{◌≡◌, inl, inr, ℕ, ◌+◌, ◌-◌, ◌<◌, ◌≤◌, Bool, true, false, eqb, List, [], ◌∷◌, ◌++◌, length, get_or, take, drop, sym, ◌∙◌, ap, arith, append_assoc, length-append, length-drop}
 use Rattle.std.proofs.lemmas.List.{ext_get_or, get_or-take, get_or-drop, length-take, drop-drop, take_at}
 use Rattle.crash_disk.specs.Disk.{IsTorn, IsOutside, Holds}
@@ -27,7 +27,7 @@ same_front m b at n f c torn long outside =
         ∙ sym (get_or-drop b f i 0)
         ∙ sym (get_or-take m (drop b f) i 0 below)
 
--- a write behind the front, and one of the first byte alone
+-- a write after the front keeps it, and so does one of the first byte alone
 pub same_fronted : (capacity at n : ℕ) (f c : List ℕ) → IsTorn at n f c → 13 ≤ at → IsFronted capacity f → IsFronted capacity c
 same_fronted capacity at n f c torn after fronted = record {
   long = omega (arith, fronted.long, torn.no_shorter);
@@ -78,7 +78,7 @@ length_half l rs x h = omega (arith, ap length h.is, length-append (header l.lab
 abbrev whole_of : Layout → List Record → ℕ → List ℕ
 whole_of l rs mark = header l.label ++ (records rs ++ mark ∷ [])
 
--- the header, the records and the mark behind them are enough
+-- a half is determined by the header, the records and the mark after them
 pub half_front : (l : Layout) (rs : List Record) (m : ℕ) (x y : List ℕ) → IsHalf l rs x → m ≡ length (header l.label) + length (records rs) + 1 → take m y ≡ take m x → IsHalf l rs y
 half_front l rs m x y h is same = record {
   fit = h.fit;

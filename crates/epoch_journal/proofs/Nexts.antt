@@ -1,4 +1,4 @@
--- One record after the other.
+-- Reading records one after the other.
 use Rattle.std.proofs.Common.{◌≡◌, ◌≢◌, inl, inr, ◌⊎◌, ℕ, zero, suc, ◌+◌, ◌-◌, ◌*◌, ◌<◌, ◌≤◌, min, ltb, List, [], ◌∷◌, ◌++◌, length, get_or, take, drop, Option, Some, None, refl, sym, ◌∙◌, ap, arith, length-drop}
 use Rattle.std.specs.Int.{w32, from_be_bytes}
 use Rattle.std.proofs.lemmas.Bool.{cases_lt, cond-true, cond-false, lt-ltb, le-ltb}
@@ -98,7 +98,7 @@ module _ (count : ℕ) (bytes : List ℕ) (counted : count ≡ from_be_bytes w32
       ∙ ap (λ (n : ℕ). changes_of n (drop 4 bytes)) counted
       ∙ sym (record_long bytes four)
 
--- ---- a mark, and what is behind it
+-- ---- a mark, and what follows it
 
 pub no_mark : (area front : List ℕ) → front ≡ take 5 area → (length front ≡ 0) ⊎ (get_or front 0 0 ≢ 1) → (place : ℕ) → reading 0 place area ≡ Whole []
 no_mark [] front is none place = reading_nil place
@@ -117,7 +117,7 @@ count_bytes (a ∷ b ∷ c ∷ []) front is long = absurd (omega arith)
 count_bytes (a ∷ b ∷ c ∷ d ∷ []) front is long = absurd (omega arith)
 count_bytes (a ∷ b ∷ c ∷ d ∷ e ∷ area) front is long = ap (λ (t : List ℕ). get_or t 1 0 ∷ get_or t 2 0 ∷ get_or t 3 0 ∷ get_or t 4 0 ∷ []) is
 
--- the part behind a place
+-- dropping bytes of a part of the file gives a later part
 pub area_drop : (n m at : ℕ) (file : List ℕ) → n ≤ m → drop n (take m (drop at file)) ≡ take (m - n) (drop (at + n) file)
 area_drop n m at file le =
     let same : m ≡ n + (m - n) = omega arith in

@@ -1,4 +1,4 @@
--- Calls that write nothing, one group after the other.
+-- Groups of calls that write nothing, one after the other.
 use Rattle.std.proofs.Common.{ℕ, List, ◌∙◌, arith}
 use Rattle.crash_disk.specs.Disk.{IsQuiet}
 use Rattle.epoch_journal.proofs.Moments.{and_then}

@@ -1,4 +1,4 @@
--- The rows that records leave take no more bytes than the records: each row has a change of its own.
+-- The rows that records leave take no more bytes than the records, since each row has a change of its own.
 use Rattle.std.proofs.Common.{◌≡◌, inl, inr, ℕ, ◌+◌, ◌*◌, ◌<◌, ◌≤◌, Bool, true, false, ◌||◌, cond, List, [], ◌∷◌, ◌++◌, length, map, Some, None, ℤ, refl, sym, ◌∙◌, ap, arith, length-append}
 use Rattle.std.specs.List.{list_all}
 use Rattle.std.specs.Ordering.{is_eq}
@@ -21,7 +21,7 @@ use Rattle.epoch_journal.proofs.Sizes.{length-header}
 
 -- ---- rows and cells
 
--- whether a cell is one of these, and these without it
+-- whether a cell is in a list, and the list without it
 abbrev among : Cell → List Cell → Bool
 among x [] = false
 among x (c ∷ cs) = same_cell c x || among x cs
@@ -61,7 +61,7 @@ later_none (r ∷ rows) x all =
     let apart : same_cell r.0 x ≡ false = same_laws.symm r.0 x ∙ same_cell-cell_cmp x r.0 ∙ ap is_eq (before_less x r.0 parts.0) in
     ap (λ b. cond b (Some r.1) (row_of rows x)) apart ∙ later_none rows x parts.1
 
--- ascending rows of these cells are no more than the cells
+-- ascending rows whose cells are all in a list are no more than its cells
 pub no_more_rows : (rows : List (Cell × ℤ)) (cs : List Cell) → IsAscending rows → ((x : Cell) → among x cs ≡ false → row_of rows x ≡ None) → length rows ≤ length cs
 no_more_rows [] cs up only = omega arith
 no_more_rows (r ∷ rows) cs up only =
@@ -122,7 +122,7 @@ small_rows rows rs up is = omega (arith, bytes_of rs, no_more_rows rows (all_cel
 
 -- ---- rows and a half
 
--- a half with a checkpoint has room for the label and the frame of one
+-- a half with a checkpoint has room for the label and the frame of another
 pub label_fits : (l : Layout) (rs : List Record) (file : List ℕ) → HasRecords l rs file → IsBegun rs → 10 + length l.label ≤ half_size l.capacity
 label_fits l [] file has begun = absurd begun
 label_fits l (r ∷ rs) file (inl now) begun = omega (arith, now.has.within, length-header l.label, length-append (body r) (records rs), length-body r)

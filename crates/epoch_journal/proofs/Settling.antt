@@ -1,4 +1,4 @@
--- A disk that ends before its halves gets its front.
+-- A disk that ends before its halves is given its front.
 use Rattle.std.proofs.Common.{◌≡◌, inl, inr, ℕ, ◌≤◌, false, eqb, List, [], ◌∷◌, length, take, drop, refl, sym, ◌∙◌, ap, arith}
 use Rattle.crash_disk.specs.Disk.{IsTorn, Holds}
 use Rattle.record_journal.specs.Format.{Record}

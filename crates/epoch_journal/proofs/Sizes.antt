@@ -1,4 +1,4 @@
--- How long the parts of a disk are.
+-- The sizes of the parts of a disk.
 use Rattle.std.proofs.Common.{◌≡◌, ℕ, ◌+◌, ◌<◌, ◌≤◌, Bool, true, false, List, length, refl, arith, length-append}
 use Rattle.std.specs.Int.{w32, to_be_bytes}
 use Rattle.epoch_journal.specs.Layout.{front, half_size, half_at, header}

@@ -1,4 +1,4 @@
--- What a crash leaves in each of the two writes of an added record.
+-- What a crash leaves in each of the two writes that add a record.
 use Rattle.std.proofs.Common.{◌≡◌, ℕ, ◌+◌, ◌<◌, ◌≤◌, List, [], ◌∷◌, ◌++◌, length, get_or, take, drop, sym, ◌∙◌, ap, arith, append_assoc, length-append}
 use Rattle.std.proofs.lemmas.List.{take_at, drop_at, drop_more}
 use Rattle.crash_disk.specs.Disk.{IsTorn, Holds}
@@ -13,7 +13,7 @@ module _ (pre : List ℕ) (end : ℕ) (size : end ≡ length pre) where
   long_enough : (x rest : List ℕ) → x ≡ pre ++ 0 ∷ rest → end + 1 ≤ length x
   long_enough x rest is = omega (arith, size, ap length is, length-append pre (0 ∷ rest))
 
-  -- bytes are written behind the end mark
+  -- the bytes are written after the end mark
   pub written_behind : (bytes old rest c : List ℕ) → old ≡ pre ++ 0 ∷ rest → 0 < length bytes → IsTorn (end + 1) (length bytes) old c → Holds (end + 1) bytes c
       → c ≡ pre ++ 0 ∷ (bytes ++ drop (end + 1 + length bytes) c)
   written_behind bytes old rest c is some torn holds =
@@ -22,7 +22,7 @@ module _ (pre : List ℕ) (end : ℕ) (size : end ≡ length pre) where
       ∙ append_assoc (pre ++ 0 ∷ []) bytes (drop (end + 1 + length bytes) c)
       ∙ append_assoc pre (0 ∷ []) (bytes ++ drop (end + 1 + length bytes) c)
 
-  -- the mark is written
+  -- a write of the mark changes that byte only
   pub marked : (staged tail c : List ℕ) → staged ≡ pre ++ 0 ∷ tail → IsTorn end 1 staged c → c ≡ pre ++ get_or c end 0 ∷ tail
   marked staged tail c is torn =
       let long = long_enough staged tail is in

@@ -1,4 +1,4 @@
--- What the bytes of a disk tell, as they are read.
+-- What the bytes of a disk tell, in the order in which they are read.
 use Rattle.std.proofs.Common.{◌≡◌, inl, inr, ◌⊎◌, ℕ, ◌+◌, ◌-◌, ◌<◌, ◌≤◌, min, eqb, Bool, true, false, List, [], ◌++◌, length, take, drop, refl, sym, ◌∙◌, ap, subst, arith, length-drop, take-append-drop}
 use Rattle.std.specs.Int.{w64, to_be_bytes}
 use Rattle.std.proofs.lemmas.Bool.{cases_lt}
@@ -12,7 +12,7 @@ joined : (capacity : ℕ) → signature ++ to_be_bytes w64 capacity ≡ front ca
 unfolding front
 joined capacity = refl
 
--- a front in two parts
+-- the front, read in two parts
 pub front_in_parts : (capacity : ℕ) (bytes : List ℕ) → take 4 bytes ≡ signature → drop 4 bytes ≡ to_be_bytes w64 capacity → bytes ≡ front capacity
 front_in_parts capacity bytes signed numbered =
     sym (take-append-drop 4 bytes) ∙ ap (λ (t : List ℕ). t ++ drop 4 bytes) signed ∙ ap (λ (t : List ℕ). signature ++ t) numbered ∙ joined capacity

@@ -1,4 +1,4 @@
--- The other half in place of the current one.
+-- The other half becomes the current one.
 use Rattle.std.proofs.Common.{◌≡◌, inl, inr, ⊎_elim, ◌⊎◌, ℕ, ◌+◌, ◌-◌, ◌<◌, ◌≤◌, Bool, true, false, not, eqb, List, [], ◌∷◌, ◌++◌, length, drop, refl, sym, ◌∙◌, ap, subst, arith, append_assoc, length-append}
 use Rattle.crash_disk.specs.Disk.{IsTorn, IsOutside, Holds}
 use Rattle.record_journal.specs.Format.{Record, body, records}
@@ -35,7 +35,7 @@ pub either_has : (l : Layout) (first : Bool) (rs : List Record) (r : Record) (c 
 either_has l first rs r c (inl old) = inl (settled_has l first rs c old)
 either_has l first rs r c (inr new) = inr (settled_has l (not first) (r ∷ []) c new)
 
--- a write of the first byte after which this half is current
+-- a write of the first byte that makes this half current
 turned : (l : Layout) (first : Bool) (rs : List Record) (f c : List ℕ) → IsTorn 0 1 f c → is_first c ≡ first → IsSettled l first rs f → IsSettled l first rs c
 turned l first rs f c turn is settled = record {
   fronted = turned_fronted l.capacity f c turn settled.fronted;
@@ -48,7 +48,7 @@ turned l first rs f c turn is settled = record {
 
 module _ (l : Layout) (first : Bool) (rs : List Record) (r : Record) (piece f : List ℕ) (is_piece : IsPiece l r piece) (settled : IsSettled l first rs f) (room : length piece ≤ half_size l.capacity)
   where
-    -- while the other half is written
+    -- the other half is being written
     elsewhere : (p : ℕ) (c : List ℕ) → p ≡ half_at l.capacity (not first) → IsTorn p (length piece) f c → IsSettled l first rs c
     elsewhere p c is torn = record {
       fronted = same_fronted l.capacity p (length piece) f c torn (omega (arith, is, behind_front l.capacity (not first))) settled.fronted;
@@ -104,7 +104,7 @@ module _ (l : Layout) (first : Bool) (rs : List Record) (r : Record) (piece f : 
       pub switched : (v : ℕ) (c : List ℕ) → ((first ≡ true) × (v ≡ 0)) ⊎ ((first ≡ false) × (v ≡ 1)) → IsTorn 0 1 mid c → Holds 0 (v ∷ []) c → IsResting l (not first) (r ∷ []) (length piece - 1) c
       switched v c chosen turn written = rests c turn (ap (λ (n : ℕ). eqb n 1) (written.each 0 (omega arith)) ∙ selected first v chosen)
 
--- the final state alone, whatever the disk had besides its front
+-- the final state alone, whatever the disk had after its front
 module _ (l : Layout) (first : Bool) (r : Record) (piece f : List ℕ) (is_piece : IsPiece l r piece) (fronted : IsFronted l.capacity f)
     (p : ℕ) (mid : List ℕ) (is : p ≡ half_at l.capacity (not first)) (torn : IsTorn p (length piece) f mid) (holds : Holds p piece mid) where
   mid_fronted : IsFronted l.capacity mid

@@ -1,4 +1,4 @@
--- What a disk tells of all records.
+-- What a disk tells of its records.
 use Rattle.std.proofs.Common.{◌≡◌, inl, ⊎_elim, ℕ, ◌+◌, ◌<◌, ◌≤◌, Bool, true, not, cond, List, [], ◌∷◌, ◌++◌, length, take, Option, Some, ℤ, Result, Ok, Err, refl, sym, ◌∙◌, ap, subst, arith, append_assoc, length-append}
 use Rattle.std.specs.Prelude.{OnOk, OnErr, IfOk, IfErr}
 use Rattle.std.proofs.lemmas.List.{take_at, take_all, take-append-le, append-nil}
@@ -51,7 +51,7 @@ pub after_records-append : (ps qs : List Record) (T : Values) → after_records 
 after_records-append [] qs T = refl
 after_records-append (p ∷ ps) qs T = after_records-append ps qs (after_changes p T)
 
--- the records of an epoch, behind a checkpoint of what the past ones left
+-- the records of an epoch over a checkpoint of what the past epochs left give the same table as all records
 pub epoch_table : (start : Values) (past asked : List Record) (rows : List (Cell × ℤ)) → ((x : Cell) → row_of rows x ≡ after_records past start x) → (x : Cell)
     → table_of start (checkpoint_of rows ∷ asked) x ≡ after_records (past ++ asked) start x
 epoch_table start past asked rows checkpoint x =
@@ -81,7 +81,7 @@ tells_with l start all some least k c is few many on = record {
   begun = on.begun;
 }
 
--- the first of some records are the first of more records
+-- the first k of some records are the first k of more records
 pub tells_more : (l : Layout) (start : Values) (all more : List Record) (least : ℕ) (file : List ℕ) → TellsOn l start all least file → TellsOn l start (all ++ more) least file
 tells_more l start all more least file on =
     let t = on.tells in
@@ -95,7 +95,7 @@ tells_more l start all more least file on =
       begun = on.begun;
     }
 
--- a journal that is stopped keeps what it kept, also of more records
+-- a stopped journal keeps what it kept, even if there are more records
 pub keeps_stopped : {D : Type 0} (seen : D → List ℕ) (may_leave : D → List ℕ → Type 0) (start : Values) (all more : List Record) (least : ℕ) (old new : JournalState D) → new.stopped ≡ true
     → new.disk ≡ old.disk → new.layout ≡ old.layout
     → Keeps seen may_leave start all least old → Keeps seen may_leave start (all ++ more) least new
@@ -155,7 +155,7 @@ pub begun : {D : Type 0} (seen : D → List ℕ) (may_leave : D → List ℕ →
 begun seen may_leave rows j below resting durable =
     runs seen may_leave (row_of rows) [] 0 j below refl (record { past = []; asked = []; rows = rows; split = refl; checkpoint = λ x. refl; resting = resting; durable = durable })
 
--- with a checkpoint the starting table does not count
+-- with a checkpoint, the starting table does not matter
 pub same_list : (first start : Values) (list : List Record) (x : Cell) → IsBegun list → table_of first list x ≡ table_of start list x
 same_list first start [] x is = absurd is
 same_list first start (r ∷ rs) x is = refl

@@ -1,4 +1,4 @@
--- What an answer makes of what a journal keeps.
+-- What an answer changes of what a journal keeps.
 use Rattle.std.proofs.Common.{◌≡◌, ◌+◌, ◌++◌, ℕ, List, Result, Ok, Err, refl, sym, ap, subst}
 use Rattle.std.specs.Prelude.{OnOk, OnErr, IsErrOf}
 use Rattle.teb_names.specs.declared.Reply.{Reply}
@@ -33,7 +33,7 @@ others_none n (Refused c) never = refl
 pub committed_one : (n : ℕ) (r : Reply) → r ≡ Committed → acknowledged_after n (Ok r) ≡ n + 1
 committed_one n r is = ap (λ (q : Reply). acknowledged_after n (Ok q)) is
 
--- a request for which the record does not fit
+-- a request whose record does not fit
 pub as_ask_full : {T U : Type 0} (p : PrepareError) (e : AskError) → e ≡ as_ask p → IsErrOf {T = T} (Err e) asking.Full → IsErrOf {T = U} (Err p) preparing.Full
 as_ask_full preparing.Full e from is = refl
 as_ask_full preparing.OutOfMemory e from is = absurd (cc)
@@ -58,13 +58,13 @@ module _ {D : Type 0} (seen : D → List ℕ) (may_leave : D → List ℕ → Ty
   keeps_same X Z rs qs n m j store same count keeps =
       subst (λ (x : Store × List Record × ℕ). Keeps seen may_leave (row_of x.0.rows) x.1 x.2 j) (λ i. (sym store i, sym same i, sym count i)) keeps
 
--- nothing is done
+-- if nothing is done, a crash leaves only what tells the kept records
 module _ {D : Type 0} (seen : D → List ℕ) (may_leave : D → List ℕ → Type 0) (moment : D → ℕ) (left_since : D → ℕ → List ℕ → Type 0) where
   pub still : (start : Table) (rs : List Record) (n : ℕ) (j : JournalState D) → ((c : List ℕ) → left_since j.disk (moment j.disk) c → may_leave j.disk c) → Keeps seen may_leave start rs n j
       → LeavesOnly moment left_since j.disk j.disk (TellsOn j.layout start rs n)
   still start rs n j only_now keeps = started moment left_since j.disk (TellsOn j.layout start rs n) (λ c left. keeps.each c (only_now c left))
 
-  -- nor are records added
+  -- which also tells of a list with more records
   pub still_more : (start : Table) (all more : List Record) (n : ℕ) (j : JournalState D) → ((c : List ℕ) → left_since j.disk (moment j.disk) c → may_leave j.disk c)
       → Keeps seen may_leave start all n j
       → LeavesOnly moment left_since j.disk j.disk (TellsOn j.layout start (all ++ more) n)

@@ -81,7 +81,7 @@ module _ {D : Type 0} (seen : D → List ℕ) (may_leave : D → List ℕ → Ty
       let same : m ≡ memory = cc is in
       (gathers.reserved.0, subst (λ (n : Memory). IsForRecord spare_with (size_of waiting) n j) same gathers.reserved.1)
 
-  -- a group was written, or the disk failed at it
+  -- a group was written, or the disk failed while it was written
   pub keeps_group : {T E : Type 0} (r : Result T E) (start : Values) (all : List Record) (end n k : ℕ) (j : JournalState D) → OnOk r (Keeps seen may_leave start all (n + k) j)
       → OnErr r (Keeps seen may_leave start all n j)
       → OnOk r ((j.stopped ≡ false) × (j.acknowledged ≡ n + k)) → OnErr r ((j.stopped ≡ true) × (j.end ≡ end) × (j.acknowledged ≡ n)) → Keeps seen may_leave start all j.acknowledged j

@@ -1,4 +1,4 @@
--- Nobody is unfinished where nobody among the live ones is.
+-- Nobody is unfinished if none of the live transactions is.
 use Rattle.std.proofs.Common.{◌≡◌, ℕ, Bool, true, false, cond, not, ◌&&◌, ◌||◌, List, [], ◌∷◌, Option, Some, None, is_some, find, refl, sym, ◌∙◌, ap}
 use Rattle.std.specs.List.{list_any, list_all}
 use Rattle.std.proofs.lemmas.Bool.{or_left}

@@ -1,4 +1,4 @@
--- Whose turn it is in a round that begins at a seat and goes round.
+-- The turn in a round that begins at any seat.
 use Rattle.std.proofs.Common.{◌≡◌, ℕ, zero, suc, option_map, set, ◌+◌, ◌-◌, ◌<◌, ◌≤◌, List, [], ◌∷◌, ◌++◌, Option, Some, None, inl, inr, get_or, length, take, drop, append_assoc, refl, sym, ◌∙◌, ap, ap₂, subst, arith, rules}
 use Rattle.std.specs.List.{AllWithin, slice_get}
 use Rattle.std.proofs.lemmas.Option.{slice_get-get_or, get_or_from_slice_get}
@@ -17,11 +17,11 @@ use Rattle.fair_driver.specs.Seats.{seat_of, seats_in, round_from, scripts_on}
 use Rattle.fair_driver.specs.Turns.{IsFirst, IsFirstAt, IsTurn, IsTurnOf}
 use Rattle.fair_driver.proofs.Offers.{offer_turned}
 
--- a seat in its place
+-- the seat at an index
 pub seat_read : (cs : List Cursor) (i : ℕ) (c : Cursor) (d : Seat) → i < length cs → c ≡ get_or cs i c → get_or (seats_in cs) i d ≡ seat_of c
 seat_read cs i c d h e = get_or-map seat_of cs i c d h ∙ ap seat_of (sym e)
 
--- the first that is offered something
+-- the first seat that has an offer
 pub none_first : (f : Seat → Option Request) (xs : List Seat) → ((k : ℕ) (d : Seat) → k < length xs → f (get_or xs k d) ≡ None) → first_offer f xs ≡ None
 unfolding first_offer
 none_first f [] h = refl
@@ -34,7 +34,7 @@ first_at f [] j r d l h e = absurd (omega arith)
 first_at f (w ∷ ws) zero r d l h e = ap (λ (o : Option Request). found w ws o (first_offer f ws)) e
 first_at f (w ∷ ws) (suc j) r d l h e = ap₂ (found w ws) (h 0 w (omega arith)) (first_at f ws j r d (omega (arith, l)) (λ k c m. h (suc k) c (omega (arith, m))) e)
 
--- the seats of a round
+-- the seats of a round by their indices
 read_back : (n k : ℕ) (ws : List Seat) (d : Seat) → n + k < length ws → get_or (round_from n ws) k d ≡ get_or ws (n + k) d
 read_back n k ws d l = get_or_append_left (drop n ws) (take n ws) d k (let z = length-drop n ws in omega arith) ∙ get_or-drop n ws k d
 
@@ -59,7 +59,7 @@ take_parts (suc n) zero [] = let e : suc n + 0 ≡ suc n = omega arith in rw e r
 take_parts (suc n) (suc m) [] = let e : suc n + suc m ≡ suc (n + suc m) = omega arith in rw e refl
 take_parts (suc n) m (x ∷ xs) = let e : suc n + m ≡ suc (n + m) = omega arith in rw e (ap (λ (l : List Seat). x ∷ l) (take_parts n m xs))
 
--- the seats behind the one at i, and those before it
+-- the seats after index i, and those before it
 others_back : (n i : ℕ) (ws : List Seat) → n ≤ i → i < length ws → drop (suc (i - n)) (round_from n ws) ++ take (i - n) (round_from n ws) ≡ drop (i + 1) ws ++ take i ws
 others_back n i ws m l =
     let room = length-drop n ws in
@@ -86,7 +86,7 @@ others_front n i ws m l =
 nobody : Seat
 nobody = record { session = record { 0 = 0 }; state = record { rest = []; begun = None }; aborts = 0 }
 
--- the first offer of the round
+-- the first seat of the round that has an offer
 module _ (H : List Event) (n : ℕ) (ws : List Seat) (within : n ≤ length ws) where
   abbrev NoneIn : ℕ → ℕ → Type 0
   NoneIn i j = AllWithin (λ (w : Seat). offer H ws w ≡ None) ws i j
@@ -97,7 +97,7 @@ module _ (H : List Event) (n : ℕ) (ws : List Seat) (within : n ≤ length ws) 
   none_front : (m : ℕ) → m ≤ n → NoneIn 0 m → (k : ℕ) (d : Seat) → k < m → offer H (round_from n ws) (get_or (round_from n ws) (length ws - n + k) d) ≡ None
   none_front m l f k d h = ap (offer H (round_from n ws)) (read_front n k ws d within (omega arith)) ∙ offer_turned H n ws (get_or ws k d) ∙ f k d (omega arith) h
 
-  -- nobody behind, and nobody of the first m
+  -- no seat from n on, and none of the first m, has an offer
   none_upto : (m : ℕ) → m ≤ n → NoneIn n (length ws) → NoneIn 0 m → (k : ℕ) (d : Seat) → k < length ws - n + m → offer H (round_from n ws) (get_or (round_from n ws) k d) ≡ None
   none_upto m l f g k d h = elim (cases_lt k (length ws - n)) [
     | inl b ↦ none_behind f k d (omega arith)
@@ -138,7 +138,7 @@ module _ (H : List Event) (n : ℕ) (ws : List Seat) (within : n ≤ length ws) 
       (λ d. read_front n a.index ws d within f.within)
       f.session f.request (others_front n a.index ws within f.within)
 
--- the round behind the seat at i, once that seat is another
+-- the round that begins after index i, once the seat there has changed
 pub round_on : (cs : List Cursor) (i : ℕ) (c : Cursor) (v : Seat) → i < length cs → seat_of c ≡ v → round_from (i + 1) (seats_in (set cs i c)) ≡ drop (i + 1) (seats_in cs) ++ take i (seats_in cs)
     ++ v ∷ []
 round_on cs i c v h e =
@@ -160,7 +160,7 @@ seat_made (x ∷ xs) (suc i) s ls a b = let e : suc i + 1 ≡ suc (i + 1) = omeg
 pub seat_there : (cs : List Cursor) (i : ℕ) (c : Cursor) (w : Seat) → i < length cs → c ≡ get_or cs i c → slice_get (seats_in cs) i ≡ Some w → seat_of c ≡ w
 seat_there cs i c w h e g = sym (seat_read cs i c nobody h e) ∙ get_or_from_slice_get (seats_in cs) i w nobody g
 
--- behind nobody, the first of those before the n-th has the turn
+-- if no seat from n on has an offer, the first of the seats before n that has one has the turn
 pub turn_last : (H : List Event) (n : ℕ) (ws : List Seat) → n ≤ length ws → AllWithin (λ (w : Seat). offer H ws w ≡ None) ws n (length ws) → (o : Option Asked) → IsFirst (offer H ws) ws 0 n o
     → IsTurn H n ws o
 turn_last H n ws m none None f = turn_none H n ws m none f

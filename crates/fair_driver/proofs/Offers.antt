@@ -1,4 +1,4 @@
--- What a session is offered, in whatever order the sessions stand.
+-- What a session is offered, whatever the order of the sessions.
 use Rattle.std.proofs.Common.{◌≡◌, ◌<◌, ℕ, zero, suc, Bool, true, false, not, leb, ◌&&◌, ◌||◌, List, [], ◌∷◌, ◌++◌, is_some, length, get_or, set, take, drop, refl, sym, ◌∙◌, ap, ap₂, arith}
 use Rattle.std.proofs.Math.Bool.{beq}
 use Rattle.std.specs.List.{list_any, list_all}
@@ -49,25 +49,25 @@ all_turned : (p : Seat → Bool) (n : ℕ) (ws : List Seat) → list_all p (roun
 all_turned p n ws = all_append p (drop n ws) (take n ws) ∙ and_swap (list_all p (drop n ws)) (list_all p (take n ws)) ∙ sym (all_append p (take n ws) (drop n ws))
     ∙ ap (list_all p) (take-append-drop n ws)
 
--- it is offered the same wherever the round begins
+-- a session has the same offer in every rotation of the round
 pub offer_turned : (H : List Event) (n : ℕ) (ws : List Seat) (w : Seat) → offer H (round_from n ws) w ≡ offer H ws w
 offer_turned H n ws w = ap (λ (b : Bool). unless_passed (is_some w.state.begun || b) (asks w.state))
     (ap₂ (λ (a b : Bool). not a || ((due w && b) && is_quiet H)) (any_turned due n ws) (all_turned (λ v. not (due v) || leb w.session.0 v.session.0) n ws))
 
--- one cursor in place of another that passes where it does
+-- replacing a cursor by one that passes the same test does not change whether one passes
 pub any_set : (p : Cursor → Bool) (cs : List Cursor) (i : ℕ) (c d : Cursor) → i < length cs → p c ≡ p (get_or cs i d) → list_any p (set cs i c) ≡ list_any p cs
 any_set p [] i c d l e = absurd (omega arith)
 any_set p (x ∷ cs) zero c d l e = ap (λ (b : Bool). b || list_any p cs) e
 any_set p (x ∷ cs) (suc i) c d l e = ap (λ (b : Bool). p x || b) (any_set p cs i c d (omega (arith, l)) e)
 
--- what is not other than another is the same
+-- two booleans that do not differ are equal
 pub not_other : (a b : Bool) → not (beq a b) ≡ false → a ≡ b
 not_other true true e = refl
 not_other true false e = absurd (cc)
 not_other false true e = absurd (cc)
 not_other false false e = refl
 
--- who may begin, by who is due and who is chosen
+-- which sessions may begin, by those that are due and the one that is chosen
 pub begins_freely : (H : List Event) (ws : List Seat) (w : Seat) → list_any due ws ≡ false → may_begin H ws w ≡ true
 begins_freely H ws w e = rw e refl
 

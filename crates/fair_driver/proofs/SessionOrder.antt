@@ -1,4 +1,4 @@
--- The scripts of lines are of sessions in ascending number.
+-- The scripts of lines are in ascending order of their sessions.
 use Rattle.std.proofs.Common.{◌≡◌, ℕ, zero, suc, ◌+◌, ◌<◌, ◌≤◌, ◌==◌, Bool, true, false, not, cond, List, [], ◌∷◌, length, filter, map, refl, arith}
 use Rattle.std.specs.List.{range_with_len}
 use Rattle.std.proofs.lemmas.Bool.{eqb-true}
@@ -10,7 +10,7 @@ use Rattle.teb_rules.specs.Driver.{Ascending}
 use Rattle.fair_driver.specs.Seats.{scripts_on}
 use Rattle.script_text.specs.Sessions.{AreOfSessions}
 
--- a number that has a line is a session's
+-- a number that has a line is a session number
 of_session : (lines : List Line) (n : ℕ) → AreOfSessions lines → not (length (filter (λ (l : Line). l.session.0 == n) lines) == 0) ≡ true → (0 < n) × (n ≤ SESSIONS)
 of_session [] n a h = absurd (cc)
 of_session (l ∷ ls) n a h = go (l.session.0 == n) refl h (of_session ls n a.2)

@@ -1,4 +1,4 @@
--- The driver underway: what its log, its history and its ring are of.
+-- The driver between two calls: its log, its history and its ring.
 use Rattle.std.proofs.Common.{◌≡◌, ℕ, zero, suc, ◌+◌, ◌<◌, ◌≤◌, Bool, true, false, List, [], ◌∷◌, ◌++◌, Option, Some, None, Result, Ok, Err, OnErr, length, take, drop, refl, sym, ◌∙◌, ap, ap₂, subst, subst₂, arith, length-append}
 use Rattle.std.specs.Prelude.{All}
 use Rattle.std.proofs.lemmas.List.{length-map, take-append-drop, map_push}
@@ -26,7 +26,7 @@ use Rattle.fair_driver.specs.Seats.{round_from}
 use Rattle.fair_driver.specs.Turns.{IsTurnOf}
 use Rattle.fair_driver.specs.Logged.{answered, answers_of, AreAnswers, IsOf, IsAnswered, IsMade}
 
--- one turn: who is asked, the answer, and the round behind it
+-- one turn: the session that is asked, the answer, and the round after it
 pub turn_taken : (X Y : Store) (H G K : List Event) (n : ℕ) (ws rs : List Seat) (a : Asked) (q : Reply) → (t : IsTurnOf H n ws a) → Y ≡ X → G ≡ H → q ≡ (answer Y G a.session a.request.now).0
     → K ≡ (answer Y G a.session a.request.now).1 →
     rs ≡ drop (a.index + 1) ws ++ take a.index ws ++ seat_after t.of.seat q ∷ [] →
@@ -46,7 +46,7 @@ every_all P [] h k d l = absurd (omega (arith, l))
 every_all P (w ∷ ws) h zero d l = h.0
 every_all P (w ∷ ws) h (suc k) d l = every_all P ws h.1 k d (omega (arith, l))
 
--- a log of the driver, its history, and the round behind it
+-- the log of the driver, its history, and the round after it
 pub record IsUnderway (X : Store) (scripts : List Script) (log : List Answered) (H : List Event) (ws : List Seat) : Type 0 where
   pub entries : List Entry
   pub driving : Driving X scripts entries (record { history = H; round = ws })
@@ -95,7 +95,7 @@ underway_ended X scripts log H K ws vs u s = record {
   events = underway_history X scripts u.entries H ws u.driving;
 }
 
--- nobody was sent back more than three times
+-- no session was sent back more than three times
 pub underway_few : (X : Store) → IsSound X.setup → (scripts : List Script) → Ascending 0 scripts → (log : List Answered) (H : List Event) (n : ℕ) (ws : List Seat)
     → IsUnderway X scripts log H (round_from n ws) → All (λ (w : Seat). w.aborts ≤ 3) ws
 underway_few X a scripts h log H n ws u =
@@ -106,7 +106,7 @@ underway_few X a scripts h log H n ws u =
     let both : Every P (take n ws ++ drop n ws) = every_append P (take n ws) (drop n ws) (every_back P (drop n ws) (take n ws) o.seats) (every_front P (drop n ws) (take n ws) o.seats) in
     every_all (λ (w : Seat). w.aborts ≤ 3) ws (every_more P (λ (w : Seat). w.aborts ≤ 3) ws (λ w k. k.few) (subst (Every P) (take-append-drop n ws) both))
 
--- a log tells the replies of the driver underway, and a count of requests has risen by one for each
+-- the log has the replies of the driver so far, and the step count has risen by one for each
 pub record IsLogged (X : Store) (scripts : List Script) (Tells : List Answered → Type 0) (H : List Event) (ws : List Seat) (start steps : ℕ) : Type 0 where
   pub answers : List Answered
   pub told : Tells answers
@@ -117,7 +117,7 @@ pub logged_start : (X : Store) (scripts : List Script) (Tells : List Answered �
     → IsLogged X scripts Tells H ws start start
 logged_start X scripts Tells H ws start t a b = record { answers = []; told = t; underway = underway_start X scripts [] H ws refl a b; counted = omega arith }
 
--- memory was wanting: the history is as it was, and the log tells what it told
+-- out of memory: the history and the replies in the log are unchanged
 pub logged_made : (X : Store) → IsSound X.setup → (scripts : List Script) → Ascending 0 scripts → (Tells Then : NameBook → List Answered → Type 0) (m n : NameBook) (H K : List Event) (ws : List Seat)
     (start steps : ℕ) → m ≡ n → K ≡ H
     → ((told : List Answered) → Tells m told → Then m told) → IsLogged X scripts (Tells n) H ws start steps → AreAnswers (Follows X [] (seated scripts)) X scripts (Then n) K start steps
@@ -129,7 +129,7 @@ logged_made X sound scripts ascending Tells Then m n H K ws start steps e k keep
   bound = underway_bound X sound scripts ascending l.answers H ws l.underway;
 }
 
--- what one call made of a log in these names, by whether somebody was asked
+-- what one call adds to the log, by whether a session was asked
 module _ (X Y : Store) (sound : IsSound X.setup) (scripts : List Script) (ascending : Ascending 0 scripts) (Tells Then : NameBook → List Answered → Type 0) (m n : NameBook) (asked : Bool)
     (H K : List Event) (ws vs : List Seat) (start steps : ℕ)
     (same : Y ≡ X) (names : m ≡ n) (made : (told : List Answered) → Tells m told → (now : List Answered) × Then m now × IsMade Y asked (record { history = H; round = ws }) told
@@ -172,7 +172,7 @@ module _ (X Y : Store) (sound : IsSound X.setup) (scripts : List Script) (ascend
         bound = omega arith;
       }
 
--- what holds whatever the result
+-- a fact that holds for every result holds on an error
 pub on_err : {T E P : Type 0} (r : Result T E) → P → OnErr r P
 on_err (Ok x) p = tt
 on_err (Err e) p = p

@@ -1,4 +1,4 @@
--- Who begins was told to wait by no node; so at a root that is a leaf, or admits one transaction a batch, each finds its side idle.
+-- No transaction began while a node told it to wait; so if the root is a leaf or admits one transaction per batch, each found its side idle.
 use Rattle.std.proofs.Common.{◌≡◌, ◌≢◌, ◌⊎◌, ℕ, suc, ◌+◌, fold, ◌<◌, ◌≤◌, Bool, true, false, not, cond, ◌&&◌, ◌||◌, eqb, ltb, leb, List, [], ◌∷◌, length, find, filter, count_by, Option, Some, None, refl, sym, ◌∙◌, ap, subst, inl, inr, arith, le_refl, lt-ltb, le-ltb, leb-true, le-leb, eq-eqb, ne_eqb}
 use Rattle.std.proofs.lemmas.Bool.{and_from, or_cases, both_ways, cases_Bool, cases_lt, not_from_false}
 use Rattle.teb_names.specs.declared.Kind.{Kind}
@@ -36,7 +36,7 @@ use Rattle.guarantees.specs.Shapes.{keeps_time, orders_by_commits}
 use Rattle.guarantees.proofs.Following.{Keeps, is_plain}
 use Rattle.guarantees.proofs.Strict.{BeginsIdle}
 
--- no Began of the history stands where a node told it to wait
+-- no transaction of the history began while a node told it to wait
 abbrev pub Admits : Setup → List Event → Type 0
 Admits S [] = Unit {0}
 Admits S (Began t s k i ∷ P) = ((u n : ℕ) → begin_stop S P (record { kind = k; instance = i }) ≡ Waits (txn u) (node n) → ⊥) × Admits S P
@@ -88,7 +88,7 @@ spot_here : (u : Txn) (a : Session) (k : Kind) (i : ℕ) (P : List Event) (t : �
 unfolding spot_of
 spot_here u a k i P t h = rw h refl
 
--- the Began of t, and that it did not wait
+-- at the Began of t, no node told it to wait
 began_free : (S : Setup) (H : List Event) (t : ℕ) → Admits S H → began_at H t < length H → spot_of (upto (suc (began_at H t)) H) t ≡ spot_of H t →
     (u n : ℕ) → begin_stop S (upto (began_at H t) H) (spot_of H t) ≡ Waits (txn u) (node n) → ⊥
 unfolding began_at
@@ -104,7 +104,7 @@ began_free S H t q b same = let f = event_first (is_began t) H b in
     go (Gone s c) P h r e = absurd (cc)
     go (Told s) P h r e = absurd (cc)
 
--- where the stop of a path is no wait, the first node does not wait
+-- if the stop of a path is not a wait, the first node does not wait
 first_free : (f : ℕ → Verdict) (ns : List ℕ) → Rooted ns → ((u n : ℕ) → stop_of f ns ≡ Waits (txn u) (node n) → ⊥) → (u : ℕ) → f 0 ≡ Wait (txn u) → ⊥
 unfolding stop_of
 first_free f [] r h u e = absurd r
@@ -117,7 +117,7 @@ wait_none (Some u) h = absurd (h u refl)
 cond_wait : (b : Bool) (v : Verdict) → b ≡ true → cond b v Go ≡ v
 cond_wait b v h = rw h refl
 
--- whoever passes a test is counted
+-- if an element of a list passes the test, the count is not 0
 counted_to : ℕ → (ℕ → Bool) → List ℕ → ℕ
 counted_to a p us = fold (λ a u. a + cond (p u) 1 0) a us
 
@@ -147,7 +147,7 @@ count_some : (p : ℕ → Bool) (us : List ℕ) (u : ℕ) → In u us → p u �
 unfolding counted_to
 count_some p us u i h = count_has p us u 0 i h
 
--- a path that does not end at the root goes on below it, on the same side for all who take it
+-- a path that does not end at the root leaves it on the same side for every transaction
 inner_side : (xs : List ℕ) (t u : ℕ) → Rooted xs → end_of xs ≢ 0 → next_of 0 t xs ≡ next_of 0 u xs
 unfolding next_of end_of
 inner_side [] t u r h = absurd r
@@ -165,7 +165,7 @@ inner_leaf S a s h f e = both_ways _ f (types_some s.kind.0 _ (subst (λ (n : �
 path_end : (S : Setup) (a : TreeFacts S) (s : Spot) → s.kind.0 < S.types → end_of (path S.tree s) ≡ leaf S.tree s
 path_end S a s h = ap end_of (path_leaf S a s h) ∙ end_is (leaf S.tree s) (front_of S a (leaf S.tree s))
 
--- a root that admits one transaction a batch lets nobody begin on a side that is not idle
+-- if the root admits one transaction per batch, no transaction begins on a side that is not idle
 one_a_batch : (S : Setup) (a : TreeFacts S) (H : List Event) → Lawful S H → Admits S H → has_batches S.tree 0 ≡ true → has_types S.tree 0 ≡ false → leb (row S.tree 0).batch 1 ≡ true → BeginsIdle S H
 unfolding BeginsIdle begin_stop on_begin side side_at
 one_a_batch S a H l q hb ht one t b =
@@ -190,7 +190,7 @@ one_a_batch S a H l q hb ht one t b =
     let z = leb-true _ _ one in
     both_ways _ no (le-leb _ _ (omega arith)))
 
--- at a root that is a leaf a side is one transaction
+-- if the root is a leaf, each side is one transaction
 alone_there : (S : Setup) (a : TreeFacts S) (xs : List ℕ) (v : ℕ) → Rooted xs → Linked S xs → has_types S.tree 0 ≡ true → next_of 0 v xs ≡ v
 unfolding next_of
 alone_there S a [] v r k h = absurd r
@@ -209,7 +209,7 @@ alone_on_side S a H l ht t b = idle_from S H 0 (side S H 0 t) (began_at H t) l (
     let e : u ≡ t = sym (own_side S a H u l (let z : began_at H u < length H = omega arith in z) ht) ∙ w.on_side ∙ own_side S a H t l b ht in
     let z = ap (began_at H) e in absurd (omega arith))
 
--- what keeps_time comes to
+-- `keeps_time` means that the root orders by commits or that every Began finds its side idle
 pub in_time : (S : Setup) (a : TreeFacts S) (H : List Event) → Lawful S H → Admits S H → keeps_time S ≡ true → (orders_by_commits S ≡ true) ⊎ BeginsIdle S H
 in_time S a H l q h = elim (or_cases (orders_by_commits S || has_types S.tree 0) _ h) [
   | inl k ↦ elim (or_cases (orders_by_commits S) _ k) [ inl o ↦ inl o | inr t ↦ inr (alone_on_side S a H l t) ]

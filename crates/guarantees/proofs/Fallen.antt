@@ -1,4 +1,4 @@
--- Whoever a cascade aborted got what an aborted transaction had put.
+-- A transaction that a cascade aborted had read from an aborted transaction.
 use Rattle.std.proofs.Common.{◌≡◌, ◌≢◌, ◌⊎◌, ℕ, ◌<◌, Bool, true, false, ◌&&◌, ◌||◌, eqb, List, [], ◌∷◌, find, Option, Some, None, unwrap_or, refl, sym, ◌∙◌, ap, subst, inl, inr, arith, ltb-true, eqb-true, eq-eqb, ne_eqb}
 use Rattle.std.proofs.lemmas.Bool.{and_from, and_parts, or_cases, or_left, or_right, both_ways, cases_eq, not-true, eqb-false}
 use Rattle.std.specs.List.{list_any}
@@ -30,11 +30,11 @@ use Rattle.teb_laws.proofs.Timeline.{begun_counted}
 use Rattle.guarantees.specs.Causes.{IsAfter}
 use Rattle.guarantees.proofs.Following.{Keeps, is_plain}
 
--- whoever has a cause After read from the one that it names, and both are aborted
+-- a transaction with the cause After read from the one that the cause names, and both are aborted
 abbrev pub Fallen : List Event → Type 0
 Fallen H = (t : ℕ) (u : Txn) → cause_of H t ≡ Some (After u) → (aborted H t ≡ true) × (read_from H t u.0 ≡ true) × (aborted H u.0 ≡ true)
 
--- one after the other the members fall, each with its cause, and nobody else
+-- only members of a cascade get a cause from it
 pub cause_other : (H : List Event) (t : ℕ) (us : List ℕ) (P : List Event) (v : ℕ) → (In v us → ⊥) → cause_of (fall_in_turn H t us P) v ≡ cause_of P v
 unfolding fall_in_turn cause_of
 cause_other H t [] P v h = refl
@@ -70,7 +70,7 @@ fall_aborts H t (u ∷ us) P w o = let e = Gone (txn u) (After (txn (blamed H t 
   | inr i ↦ elim i [ inl q ↦ inl (aborted-cons e P w ∙ or_left (is_gone w e) (aborted P w) (eq-eqb u w q)) | inr j ↦ inr j ]
 ])
 
--- who is aborted after that was before, or is a member
+-- a transaction that is aborted after a cascade was aborted before it or is a member
 pub aborts_fall : (H : List Event) (t : ℕ) (us : List ℕ) (P : List Event) (w : ℕ) → aborted (fall_in_turn H t us P) w ≡ true → (aborted P w ≡ true) ⊎ In w us
 unfolding fall_in_turn
 aborts_fall H t [] P w h = inl h
@@ -79,7 +79,7 @@ aborts_fall H t (u ∷ us) P w h = let e = Gone (txn u) (After (txn (blamed H t 
   | inl a ↦ elim (or_cases (is_gone w e) (aborted P w) (sym (aborted-cons e P w) ∙ a)) [ inl q ↦ inr (inl (eqb-true u w q)) | inr q ↦ inl q ]
 ]
 
--- whom a member's cause names
+-- v read from w, and w is t, is aborted, or is in the cascade of t
 blames : (H : List Event) (t v w : ℕ) → Bool
 blames H t v w = read_from H v w && (eqb w t || aborted H w || list_any (eqb w) (cascade H t))
 
@@ -110,7 +110,7 @@ gone_one t c H = aborted-cons (Gone (txn t) c) H t ∙ or_left (eqb t t) (aborte
 gone_on : (t w : ℕ) (c : Cause) (H : List Event) → aborted H w ≡ true → aborted (Gone (txn t) c ∷ H) w ≡ true
 gone_on t w c H a = aborted-cons (Gone (txn t) c) H w ∙ or_right (eqb t w) (aborted H w) a
 
--- an abort keeps it
+-- an abort keeps `Fallen` for the members of its cascade
 member_fallen : (S : Setup) (H : List Event) (t : ℕ) (c : Cause) (v : ℕ) → Good S H → unfinished H t ≡ true → In v (cascade H t) →
     (aborted (abort H t c) v ≡ true) × (read_from (abort H t c) v (blamed H t v) ≡ true) × (aborted (abort H t c) (blamed H t v) ≡ true)
 unfolding abort blames read_from
@@ -137,7 +137,7 @@ reads_gone : (t : ℕ) (c : Cause) (H : List Event) (v w : ℕ) → read_from (G
 unfolding read_from
 reads_gone t c H v w = refl
 
--- what the cause of one who is no member says
+-- an abort keeps `Fallen` for transactions outside its cascade
 outside_fallen : (H : List Event) (t : ℕ) (c : Cause) (us : List ℕ) (v : ℕ) (w : Txn) → is_after (Some c) ≡ false → Fallen H → cause_of (Gone (txn t) c ∷ H) v ≡ Some (After w) →
     (aborted (fall_in_turn H t us (Gone (txn t) c ∷ H)) v ≡ true) × (read_from (fall_in_turn H t us (Gone (txn t) c ∷ H)) v w.0 ≡ true)
     × (aborted (fall_in_turn H t us (Gone (txn t) c ∷ H)) w.0 ≡ true)
@@ -162,7 +162,7 @@ abort_fallen S H t c g u a q v w e = elim (In_or_not v (cascade H t)) [
   | inr out ↦ outside_fallen H t c (cascade H t) v w a q (sym (cause_other H t (cascade H t) (Gone (txn t) c ∷ H) v out) ∙ e)
 ]
 
--- and so does any other event
+-- an event that changes no cause keeps `Fallen`
 more_fallen : (e : Event) (P : List Event) → ((t : ℕ) → cause_of (e ∷ P) t ≡ cause_of P t) → Fallen P → Fallen (e ∷ P)
 unfolding read_from
 more_fallen e P same q t u c = let r = q t u (sym (same t) ∙ c) in
@@ -190,7 +190,7 @@ pub none_fallen : Fallen []
 unfolding cause_of
 none_fallen t u e = absurd (cc)
 
--- a cell that t got from u, and that u had put
+-- a cell that t read from u and that u had put
 record ReadPut (H : List Event) (t u : ℕ) : Type 0 where
   cell : Cell
   read : list_any (is_read t cell u) H ≡ true

@@ -1,4 +1,4 @@
--- What each answer keeps holds of every run.
+-- A property that every answer keeps holds in every run.
 use Rattle.std.proofs.Common.{◌≡◌, ℕ, suc, Bool, true, false, cond, not, ◌&&◌, ltb, leb, List, [], ◌∷◌, Option, Some, None, is_none, refl, ℤ, ◌+ℤ◌}
 use Rattle.teb_names.specs.declared.TheConstants.{MOST_TXNS, SESSIONS}
 use Rattle.teb_names.specs.declared.Cell.{Cell}
@@ -44,7 +44,7 @@ is_plain (Began t s k i) = false
 is_plain (Gone t c) = false
 is_plain _ = true
 
--- Q outlives each event that an answer adds: a plain one, a Began that does not wait, and an abort with its cascade
+-- Q is kept by each event that an answer adds: a plain one, a Began that does not wait, and an abort with its cascade
 pub record Keeps (X : Store) (Q : List Event → Type 0) : Type 0 where
   pub plain : (e : Event) (P : List Event) → is_plain e ≡ true → Q P → Q (e ∷ P)
   pub begins : (s : Session) (k : Spot) (P : List Event) → ((u n : ℕ) → begin_stop X.setup P k ≡ Waits (txn u) (node n) → ⊥) → Q P → Q (Began (txn (suc (begun_count P))) s k.kind k.instance ∷ P)
@@ -55,7 +55,7 @@ cause_not_after n (WasLate u x) = refl
 cause_not_after n (WasFirst u x) = refl
 cause_not_after n (IsPivot a b c d) = refl
 
--- whoever is held and not aborted is unfinished
+-- a transaction that is held and not aborted is unfinished
 pub held_runs : (H : List Event) (s t : ℕ) → held H s ≡ Some t → aborted H t ≡ false → unfinished H t ≡ true
 held_runs H s t h a = elim (holds_cases H s t (held_holds H s t h)) [ inl u ↦ u | inr u ↦ absurd (both_ways _ a (untold_gone H t u)) ]
 

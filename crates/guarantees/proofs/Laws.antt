@@ -1,4 +1,4 @@
--- The guarantees, of every run.
+-- The guarantees hold for every run.
 use Rattle.std.proofs.Common.{List, []}
 use Rattle.std.proofs.lemmas.Bool.{both_ways}
 use Rattle.teb_names.specs.declared.Session.{Session}

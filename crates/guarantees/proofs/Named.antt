@@ -1,4 +1,4 @@
--- What the stops of a request name.
+-- The transactions and grounds that the stops of a request name.
 use Rattle.std.proofs.Common.{◌≡◌, ◌≢◌, ◌⊎◌, ℕ, Bool, true, false, not, ◌&&◌, ◌||◌, eqb, List, [], ◌∷◌, find, Option, Some, None, refl, ◌∙◌, ap, subst, inl, inr, ltb-true, ltb-false, eqb-true, eq-eqb}
 use Rattle.std.proofs.lemmas.Bool.{and_from, and_parts, or_cases, or_left, or_right, cases_eq, not-true}
 use Rattle.std.specs.List.{list_any}
@@ -40,7 +40,7 @@ use Rattle.teb_laws.proofs.Waits.{InWay, access_way, commit_way}
 use Rattle.teb_rules.specs.Steps.{passed, rank_of_table}
 use Rattle.guarantees.specs.Causes.{IsGrounded, IsOverwritten, IsSecond, IsTooLate, writes}
 
--- a stop is what one node said
+-- a stop is the verdict of one node
 pub stop_waits : (f : ℕ → Verdict) (ns : List ℕ) (u : Txn) (n : Node) → stop_of f ns ≡ Waits u n → f n.0 ≡ Wait u
 unfolding stop_of
 stop_waits f [] u n h = absurd (cc)
@@ -77,7 +77,7 @@ break_found : (o : Option ℕ) (f : ℕ → Broken) (b : Broken) → break_for o
 break_found None f b h = absurd (cc)
 break_found (Some u) f b h = let e : f u ≡ b = cc in (u, refl, e)
 
--- a read of x by u from the starting row, from t, or from a version before t's
+-- a read of x by u, from the starting row, from t, or from a version before that of t
 read_before : (S : Setup) (H P : List Event) (x : Cell) (t u : ℕ) → has_read_before S H P x t u ≡ true → (w : ℕ) × (list_any (is_read u x w) P ≡ true) × ((w ≡ t) ⊎ (precedes S H x w t ≡ true))
 unfolding has_read_before
 read_before S H [] x t u h = absurd (cc)
@@ -155,7 +155,7 @@ overwritten S H n a b h =
     let w = past_read S H H a b p.1 in
     record { meet = q.0; together = q.1; cell = w.0; from = w.1; read = w.2; put = w.3; after = w.4 }
 
--- who is at stake beside t is prepared or committed
+-- a transaction at stake is t, or is prepared or committed
 at_stake_is : (H : List Event) (t u : ℕ) → In u (at_stake H t) → (u ≡ t) ⊎ ((prepared H u || committed H u) ≡ true)
 unfolding at_stake
 at_stake_is H t u i = elim (or_cases (eqb u t || prepared H u) (committed H u) (filter-In _ u (txns H) i).1) [
@@ -169,7 +169,7 @@ settled_one H t u i ne = elim (at_stake_is H t u i) [ inl e ↦ absurd (ne e) | 
 settled_two : (H : List Event) (t u : ℕ) → In u (at_stake H t) → u ≢ t → (prepared H u ≡ true) ⊎ (committed H u ≡ true)
 settled_two H t u i ne = or_cases (prepared H u) (committed H u) (settled_one H t u i ne)
 
--- t is one of the four, since those that are prepared or committed hold no pivot
+-- t is one of the four: the transactions that are already prepared or committed have no pivot
 one_of : (S : Setup) (tf : TreeFacts S) (H : List Event) (n t a b c d : ℕ) → Lawful S H → (row S.tree n).control ≡ Snapshot → In a (at_stake H t) → In b (at_stake H t) → In c (at_stake H t)
     → In d (at_stake H t) →
     edge S H n a b ≡ true → edge S H n c d ≡ true → one_batch S H n b c ≡ true → In t (a ∷ b ∷ c ∷ d ∷ [])
@@ -225,7 +225,7 @@ validate_breaks Snapshot S tf H r n t b l c a h =
       ]) ne;
     })
 
--- what a stop of t, which asks r, names: whom a wait is for, and the ground of a break
+-- what the stop of t's request r names: the transaction of a wait, and the ground of a break
 pub record StopNames (S : Setup) (H : List Event) (r : Request) (t : ℕ) (s : Stop) : Type 0 where
   pub waits : (u : Txn) (n : Node) → s ≡ Waits u n → InWay S H n.0 t u.0
   pub breaks : (n : Node) (b : Broken) → s ≡ Breaks n b → IsGrounded S H r t (cause_at n b)

@@ -1,4 +1,4 @@
--- The graph of waits has no cycle, and the oldest unfinished transaction does not wait.
+-- The waits have no cycle, and the oldest unfinished transaction does not wait.
 use Rattle.std.proofs.Common.{◌≡◌, ◌≢◌, ◌⊎◌, ℕ, zero, suc, ◌<◌, ◌≤◌, true, false, List, Some, inl, inr, arith, subst, sym}
 use Rattle.std.proofs.lemmas.Bool.{both_ways, cases_Bool, cases_eq, cases_lt}
 use Rattle.teb_names.specs.declared.Node.{Node}
@@ -13,7 +13,7 @@ use Rattle.teb_rules.specs.Answer.{answer}
 use Rattle.teb_laws.proofs.Waits.{again_fair}
 use Rattle.guarantees.specs.Waiting.{HasNoDeadlock, Leads, WaitsFor, further, step}
 
--- along waits the transactions that are held get older
+-- along a chain of waits, the transactions that the sessions hold get older
 record IsOlderAt (H : List Event) (s z : ℕ) : Type 0 where
   who : ℕ
   holds : held H z ≡ Some who
@@ -25,7 +25,7 @@ along X H s z (further a y b w rest) =
     let r = along X H y b rest in
     record { who = r.who; holds = r.holds; older = λ t h. let a = (again_fair X H (record { 0 = a }) w.request w.who w.node w.told).older t h in let b = r.older w.who.0 w.holds in omega arith }
 
--- the least of those that are unfinished
+-- the lowest-numbered unfinished transaction
 record Least (H : List Event) : Type 0 where
   who : ℕ
   running : unfinished H who ≡ true

@@ -66,7 +66,7 @@ read_served X H t x granted r a b c g =
     (cond_served r (prepared H t) (refuse H IsPrepared) inner b
     (cond_served r (is_none (least_step (profile X.setup (kind_of H t)) (cursor X.setup H t) x.table.0)) (refuse H NotInProfile) granted c g))
 
--- the session of whoever runs is one of 1 to SESSIONS, and its request is the transaction's
+-- an active transaction's session is one of 1 to SESSIONS, and its requests are answered for that transaction
 asked_by : (X : Store) (H : List Event) (s : Session) (t : ℕ) (r : Request) → Lawful X.setup H → held H s.0 ≡ Some t → unfinished H t ≡ true → answer X H s r ≡ answer_of X H t r
 unfolding answer unfinished
 asked_by X H s t r l h u =

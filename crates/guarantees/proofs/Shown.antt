@@ -1,4 +1,4 @@
--- Runs that show where a guarantee ends, by computation.
+-- Worked runs, by computation, that show the limits of the guarantees.
 use Rattle.std.proofs.Common.{◌≡◌, ℕ, zero, suc, ◌<◌, lit<, List, [], ◌∷◌, length, get_or, None, refl, ap, inl, inr, arith}
 use Rattle.teb_names.specs.declared.ControlKind.{ControlKind}
 use Rattle.teb_names.specs.declared.ControlKind.TheVariants.{Locks, Pipeline, Timestamp, Snapshot}
@@ -14,7 +14,7 @@ use Rattle.guarantees.specs.Reading.{ReadsAreServed}
 use Rattle.std.proofs.lemmas.Bool.{false≢true}
 use Rattle.guarantees.specs.Cascades.{HasNoCascade}
 
--- the stores are sound
+-- these stores are sound
 two_sound : (c : ControlKind) → tree_fault (two_sides c).setup.tree 2 ≡ None → IsSound (two_sides c).setup
 two_sound c f = record { some = omega arith; parts = parts; accepted = f; profiles = record { filled = filled } }
   where
@@ -44,7 +44,7 @@ one_sound c f = record { some = omega arith; parts = parts; accepted = f; profil
     filled zero (suc (suc i)) h g = absurd (omega arith)
     filled (suc k) i h g = absurd (omega arith)
 
--- 3 stands before 2, and not behind it
+-- 2 is not before 3 in the order 3, 2
 not_behind : StandsBefore (3 ∷ 2 ∷ []) 2 3 → ⊥
 not_behind s = elim s [ inl p ↦ (let e : ◌≡◌ {A = ℕ} 3 2 = p.0 in omega arith) | inr q ↦ elim q [ inl p ↦ p.1 | inr z ↦ z ] ]
 

@@ -1,4 +1,4 @@
--- A root that orders by commits, is a leaf, or admits one transaction a batch, keeps the order of time.
+-- A root that orders by commits, is a leaf, or admits one transaction per batch, keeps the real-time order.
 use Rattle.std.proofs.Common.{◌≡◌, ◌≢◌, ◌⊎◌, ℕ, suc, ◌<◌, ◌≤◌, true, ◌||◌, eqb, List, [], ◌∷◌, length, refl, sym, ◌∙◌, ap, inl, inr, arith, le_refl, eq-eqb, eqb-true}
 use Rattle.std.proofs.lemmas.Bool.{or_left, both_ways, cases_eq, cases_lt}
 use Rattle.teb_names.specs.declared.ControlKind.{ControlKind}
@@ -24,7 +24,7 @@ use Rattle.teb_laws.proofs.Timeline.{apart, kind-lt}
 use Rattle.guarantees.specs.Shapes.{orders_by_commits}
 use Rattle.guarantees.specs.Time.{KeepsRealTime, commit_order}
 
--- everybody's path begins at the root
+-- every path begins at the root
 pub on_root : (S : Setup) (a : TreeFacts S) (H : List Event) (t : ℕ) → Lawful S H → began_at H t < length H → on S H 0 t ≡ true
 unfolding on on_path
 on_root S a H t l b = first_among (path S.tree (spot_of H t)) (path_good S a (spot_of H t) (kind-lt S H t l b)).rooted
@@ -33,7 +33,7 @@ on_root S a H t l b = first_among (path S.tree (spot_of H t)) (path_good S a (sp
     first_among [] h = absurd h
     first_among (x ∷ xs) h = or_left (eqb x 0) (among 0 xs) (eq-eqb x 0 h)
 
--- whoever begins finds its side of the root idle: each batch of the root is of one transaction
+-- every transaction finds its side of the root idle when it begins, so each batch of the root has one transaction
 unfoldable pub BeginsIdle : Setup → List Event → Type 0
 BeginsIdle S H = (t : ℕ) → began_at H t < length H → idle S (upto (began_at H t) H) 0 (side S H 0 t) ≡ true
 
@@ -41,12 +41,12 @@ one_began : (u t : ℕ) (e : Event) → is_began u e ≡ true → is_began t e �
 one_began u t (Began s a k i) p q = sym (eqb-true s.0 u p) ∙ eqb-true s.0 t q
 one_began u t _ p q = absurd (cc)
 
--- two transactions begin at different places
+-- two transactions begin at different positions
 began_apart : (H : List Event) (u t : ℕ) → began_at H u < length H → u ≢ t → began_at H u ≡ began_at H t → ⊥
 unfolding began_at
 began_apart H u t b ne e = apart (is_began u) (is_began t) H (λ v p q. ne (one_began u t v p q)) b e
 
--- so its batch starts where it begins and closes where it is done
+-- so its batch starts when it begins and closes when it ends
 start_is : (S : Setup) (a : TreeFacts S) (H : List Event) (t : ℕ) → Lawful S H → BeginsIdle S H → began_at H t < length H → began_at H t ≤ start S H 0 t
 unfolding BeginsIdle
 start_is S a H t l f b =
@@ -98,7 +98,7 @@ strict_by_idle S a H l f t u dt du h r =
     let w = start_is S a H u l f bu in
     omega arith
 
--- the rank at the root follows time
+-- the rank at the root follows real time
 root_rank : (S : Setup) (a : TreeFacts S) (H : List Event) → Lawful S H → (orders_by_commits S ≡ true) ⊎ BeginsIdle S H → (t u : ℕ) → Commits H t → Commits H u → done_at H t < began_at H u
     → rank S H 0 t < rank S H 0 u
 root_rank S a H l o t u dt du h = elim (kind_node S 0) [
@@ -125,7 +125,7 @@ keeps_real_time S a H l o t u ct cu h =
     stands_sorted (serially S H) (Commits H) (serial_strict S a H l) (serial_order S H) t u (order_each S a H l) (order_sorted S a H l) (order_all S a H l t dt) (order_all S a H l u du)
     (serial_from_root S a H t u l dt du (root_rank S a H l o t u dt du h))
 
--- the commit order
+-- the serial order is the commit order
 pub commit_ordered : (S : Setup) (a : TreeFacts S) (H : List Event) → Lawful S H → orders_by_commits S ≡ true → serial_order S H ≡ commit_order H
 commit_ordered S a H l o = order_of_commits S a H l (kind (row S.tree 0).control refl o) ∙ same H
   where

@@ -1,4 +1,4 @@
--- What an answer tells of an abort, and whom it aborts.
+-- What an answer says of an abort, and which transactions it aborts.
 use Rattle.std.proofs.Common.{◌≡◌, ◌≢◌, ◌⊎◌, ℕ, Bool, true, false, not, cond, ◌&&◌, ltb, leb, List, [], ◌∷◌, Option, Some, None, is_none, unwrap_or, refl, sym, ◌∙◌, ap, subst, inl, inr, ltb-true, eqb-true, eq-eqb, ℤ, ◌+ℤ◌}
 use Rattle.std.proofs.lemmas.Bool.{and_parts, or_cases, both_ways}
 use Rattle.teb_names.specs.declared.TheConstants.{MOST_TXNS, SESSIONS}
@@ -48,7 +48,7 @@ abbrev cause_in : Reply → Cause
 cause_in (Aborted c) = c
 cause_in _ = Asked
 
--- x, the answer to the request r of t: an abort that is told is grounded, and is what happens; else nobody is aborted
+-- x, the answer to t's request r, tells a grounded abort and carries it out, or aborts no transaction
 record Tells (S : Setup) (H : List Event) (r : Request) (t : ℕ) (x : Answered) : Type 0 where
   tells : (c : Cause) → x.0 ≡ Aborted c → IsGrounded S H r t c × (x.1 ≡ abort H t c)
   keeps : ((c : Cause) × (x.1 ≡ abort H t c)) ⊎ ((v : ℕ) → aborted x.1 v ≡ aborted H v)
@@ -118,12 +118,12 @@ module _ (X : Store) (tf : TreeFacts X.setup) (H : List Event) (l : Lawful X.set
   of_tells Abort = aborted_tells Abort Asked (refl, u)
   of_tells End = aborted_tells End Ended (refl, u)
 
--- the cause that an abort keeps of the one that it begins with
+-- an abort keeps its cause for the transaction with which it begins
 abort_cause : (H : List Event) (t : ℕ) (c : Cause) → cause_of (abort H t c) t ≡ Some c
 unfolding abort cause_of
 abort_cause H t c = cause_other H t (cascade H t) (Gone (txn t) c ∷ H) t (λ i. (falls_parts H t (cascade H t) t (cascade-In H t t i).1).1 refl) ∙ rw (eq-eqb t t refl) refl
 
--- who else an abort aborts
+-- every other transaction that an abort aborts has the cause After, with the transaction that it read from
 abort_others : (H : List Event) (t : ℕ) (c : Cause) (v : ℕ) → aborted H v ≡ false → aborted (abort H t c) v ≡ true → t ≢ v → cause_of (abort H t c) v ≡ Some (After (txn (blamed H t v)))
 unfolding abort
 abort_others H t c v a b ne = elim (aborts_fall H t (cascade H t) (Gone (txn t) c ∷ H) v b) [
@@ -131,7 +131,7 @@ abort_others H t c v a b ne = elim (aborts_fall H t (cascade H t) (Gone (txn t) 
   | inl g ↦ absurd (elim (or_cases (is_gone v (Gone (txn t) c)) (aborted H v) (sym (aborted-cons (Gone (txn t) c) H v) ∙ g)) [ inl e ↦ ne (eqb-true t v e) | inr e ↦ both_ways _ a e ])
 ]
 
--- what the answer x to the request r of session s names
+-- what the answer x to request r of session s names
 pub record Names (S : Setup) (H : List Event) (s : Session) (r : Request) (x : Answered) : Type 0 where
   pub told : (c : Cause) → x.0 ≡ Aborted c → (t : ℕ) × (held H s.0 ≡ Some t) × IsGrounded S H r t c × (cause_of x.1 t ≡ Some c)
   pub others : (v : ℕ) → aborted H v ≡ false → aborted x.1 v ≡ true → held H s.0 ≢ Some v → (u : Txn) × (cause_of x.1 v ≡ Some (After u))
@@ -178,7 +178,7 @@ untold_after : (H : List Event) (t : ℕ) → untold H t ≡ true → is_after (
 unfolding untold
 untold_after H t h = (and_parts _ _ h).0
 
--- the notice repeats the kept cause
+-- the notice gives the cause that was kept
 notice_names : (S : Setup) (H : List Event) (s : Session) (r : Request) (t : ℕ) → Lawful S H → Fallen H → held H s.0 ≡ Some t → aborted H t ≡ true
     → Names S H s r (Aborted (unwrap_or (cause_of H t) Asked), WasTold (txn t) ∷ H)
 unfolding cause_of

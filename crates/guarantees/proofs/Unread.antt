@@ -1,4 +1,4 @@
--- Where every node is a locks or a snapshot node nobody reads from a transaction that is not committed; so an abort takes nobody with it.
+-- If every node is a locks or a snapshot node, no transaction reads from an uncommitted one; so an abort has no cascade.
 use Rattle.std.proofs.Common.{◌≡◌, ◌≢◌, ℕ, zero, suc, ◌<◌, Bool, true, false, ◌||◌, List, [], ◌∷◌, length, filter, refl, sym, ◌∙◌, ap, subst, inl, inr, arith, le_refl, ltb-true, ltb-false, lt-ltb, eqb-true}
 use Rattle.std.proofs.lemmas.Bool.{and_parts, or_cases, or_right, cases_lt, false_from_ne_true, not-true, eqb-false}
 use Rattle.std.specs.List.{list_any}
@@ -27,7 +27,7 @@ use Rattle.teb_laws.proofs.Serial.{filter-In}
 use Rattle.teb_laws.proofs.Timeline.{begun_counted}
 use Rattle.guarantees.specs.Shapes.{HidesUncommitted}
 
--- a batch that is closed leaves nobody unfinished
+-- if the batch of w closed before that of t started, w is committed or aborted
 closed_committed : (S : Setup) (P : List Event) (n t w : ℕ) → Lawful S P → on S P n t ≡ true → on S P n w ≡ true → began_at P t < length P → began_at P w < length P → aborted P w ≡ false
     → close S P n w < start S P n t → committed P w ≡ true
 unfolding aborted committed
@@ -36,7 +36,7 @@ closed_committed S P n t w l ot ow bt bw a h = elim (cases_lt (done_at P w) (len
   | inr d ↦ absurd (let g = ltb-false _ _ a in let o = open_while S P n w (length P) l ow bw (le_refl _) d g in let s = (interval S P n t l bt ot).by_began in omega arith)
 ]
 
--- what is seen there is committed
+-- the writer of a version that is seen at such a node is committed
 seen_committed : (S : Setup) (c : ControlKind) (P : List Event) (n : ℕ) (x : Cell) (t w : ℕ) → Lawful S P → is_locks c || is_snapshot c ≡ true → on S P n t ≡ true → on S P n w ≡ true
     → began_at P t < length P → began_at P w < length P → aborted P w ≡ false →
     sees_by c S P n x t w ≡ true → committed P w ≡ true
@@ -46,7 +46,7 @@ seen_committed S Pipeline P n x t w l k ot ow bt bw a h = absurd (cc)
 seen_committed S Timestamp P n x t w l k ot ow bt bw a h = absurd (cc)
 seen_committed S Snapshot P n x t w l k ot ow bt bw a h = closed_committed S P n t w l ot ow bt bw a (ltb-true _ _ h)
 
--- whoever is read from is committed
+-- every transaction that is read from is committed
 abbrev pub ReadsCommitted : List Event → Type 0
 ReadsCommitted H = (u w : ℕ) → read_from H u w ≡ true → 0 < w → committed H w ≡ true
 
@@ -56,7 +56,7 @@ hides S h n = elim (cases_lt n (length S.tree)) [
   | inr l ↦ ap (λ (r : NodeRow). is_locks r.control || is_snapshot r.control) (get_or_past S.tree n no_row l)
 ]
 
--- who sees a version there is read by
+-- the writer of a version that is seen is committed
 seen_done : (S : Setup) (a : TreeFacts S) (P : List Event) (x : Cell) (t w : ℕ) → Lawful S P → HidesUncommitted S → began_at P t < length P → began_at P w < length P → sees S P x t w ≡ true
     → committed P w ≡ true
 seen_done S a P x t w l h bt bw s =
@@ -66,7 +66,7 @@ seen_done S a P x t w l h bt bw s =
     seen_committed S (row S.tree m.node).control P m.node x t w l (hides S h m.node) q.0 q.1 bt bw p.2
     (subst (λ (n : ℕ). sees_by (row S.tree n).control S P n x t w ≡ true) (meet_is S a P m.node t w l bt bw m.meet) p.3)
 
--- the Got of a version of another transaction
+-- a transaction from which another one reads is committed
 got_committed : (S : Setup) (a : TreeFacts S) (P : List Event) (t w : ℕ) (x : Cell) → Lawful S P → HidesUncommitted S → began_at P t < length P → source S P t x ≡ w → w ≢ t → 0 < w
     → committed P w ≡ true
 got_committed S a P t w x l h bt e ne pos = elim (read_case S P t x w e) [

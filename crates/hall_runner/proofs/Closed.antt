@@ -24,7 +24,7 @@ use Rattle.hall_runner.specs.Outcomes.{AreSetUp, IsSerializedOver}
 abbrev IsPrinted : Store → NameBook → List Event → Shown → Type 0
 IsPrinted X names H o = (o.status ≡ 0) × (o.history ≡ Some H) × IsPrintedRun X names H o.text
 
--- all that a setup has has a name
+-- everything in a setup has a name
 named_by : (X : Store) (names : NameBook) → AreSetUp X names → IsNamedBy X names
 named_by X names s = record {
   nodes = ap (λ (Y : Store). length Y.setup.tree) s.store ∙ s.nodes ∙ sym (ap (λ (b : NameBook). length b.nodes) s.named);

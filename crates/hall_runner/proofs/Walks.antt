@@ -1,4 +1,4 @@
--- The walks of the sessions of a hall that was closed, from what its passes have seen.
+-- The walks of the sessions of a closed hall, from what its passes have seen.
 use Rattle.std.proofs.Common.{◌≡◌, ◌≢◌, ℕ, zero, suc, ◌+◌, ◌<◌, ◌≤◌, ◌==◌, if◌then◌else◌, Bool, true, false, List, [], ◌∷◌, map, Some, All, slice_get, eqb, refl, sym, ◌∙◌, ap, subst, arith, inl, inr}
 use Rattle.std.proofs.lemmas.Bool.{eqb-true, cases_lt}
 use Rattle.teb_names.specs.declared.TheConstants.{SESSIONS}
@@ -17,7 +17,7 @@ use Rattle.session_server.proofs.Numbers.{has_all}
 use Rattle.session_tasks.specs.Scripted.{Scripted}
 use Rattle.session_tasks.specs.Served.{IsServed}
 
--- an element with this number, of which P holds
+-- an element with the number s that has P
 pick : {A : Type 0} (f : A → ℕ) (P : A → Type 0) (xs : List A) (s : ℕ) → Has (map f xs) s → All P xs → (x : A) × (f x ≡ s) × P x
 pick f P [] s has all = absurd (omega (arith, has))
 pick {A} f P (x ∷ xs) s has all = go (s == f x) refl has (λ h. pick f P xs s h (λ k d low. all (suc k) d (omega (arith, low))))
@@ -35,7 +35,7 @@ session_in (x ∷ xs) least a zero s lines e = let z : x.0.0 ≡ s.0 = some_sess
     some_session y t ls f = let k : y ≡ (t, ls) = cc in ap (λ (w : Session × List Line). w.0.0) k
 session_in (x ∷ xs) least a (suc i) s lines e = session_in xs x.0.0 a.2 i s lines e
 
--- no entry is of a session outside their range
+-- no entry is of a session outside 1 to SESSIONS
 none_outside : (s : ℕ) (entries : List Entry) → All (λ (e : Entry). (1 ≤ e.session.0) × (e.session.0 ≤ SESSIONS)) entries → ((1 ≤ s) × (s ≤ SESSIONS) → ⊥) → entries_of s entries ≡ []
 none_outside s [] within out = refl
 none_outside s (e ∷ es) within out = go (eqb e.session.0 s) refl (none_outside s es (λ k d low. within (suc k) d (omega (arith, low))) out)

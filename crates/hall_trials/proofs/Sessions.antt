@@ -1,4 +1,4 @@
--- Passes that are still of their sessions.
+-- Passes still belong to their sessions.
 use Rattle.std.proofs.Common.{◌≡◌, ℕ, suc, ◌<◌, List, [], ◌∷◌, ◌++◌, map, length, get_or, take, drop, refl, ◌∙◌, ap, arith}
 use Rattle.std.proofs.Math.Seq.{take-append_seam}
 use Rattle.hall_server.specs.declared.server.Server.{Ghosts}
@@ -16,7 +16,7 @@ module _ {V : Type 0} {g : Ghosts V} where
       let rest = same_numbers xs ys (omega arith) (λ i d b. each (suc i) d (omega arith)) in
       λ i. (first i).0 ∷ rest i
 
-  -- the passes of a `Vec` of n, once all of them were written
+  -- the passes in a `Vec` of n after all of them were written
   pub numbers_written : (n : ℕ) (all old new : List (PassOf V g)) → old ≡ all → length new ≡ length old → n ≡ length new
       → ((i : ℕ) (d : PassOf V g) → i < length old → (get_or new i d).session ≡ (get_or old i d).session) → map number_of (take n (new ++ drop (length new) all)) ≡ map number_of all
   numbers_written n all old new same l count each =

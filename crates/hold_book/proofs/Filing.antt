@@ -1,4 +1,4 @@
--- Holds that are filed, after an access and after a release.
+-- The lists of holds after an access and after a release.
 use Rattle.std.proofs.Common.{◌≡◌, ℕ, suc, ◌<◌, ◌≤◌, Bool, true, false, cond, ◌&&◌, ◌||◌, List, [], ◌∷◌, get_or, set, Result, Ok, Err, refl, sym, ◌∙◌, ap, subst, arith, inl, inr}
 use Rattle.std.specs.Ordering.{is_eq}
 use Rattle.std.specs.Result.{is_err}
@@ -16,7 +16,7 @@ use Rattle.teb_names.proofs.Bools.{or_false}
 use Rattle.hold_book.specs.declared.Hold.{Hold}
 use Rattle.hold_book.specs.Books.{hold_number, has_put, accessed, released, IsFiled}
 
--- nobody of a number that is below all
+-- a transaction whose number is below all holds has no put among them
 none_above : (t : ℕ) (hs : List Hold) → AllAbove hold_number t hs → has_put t hs ≡ false
 none_above t [] a = refl
 none_above t (h ∷ hs) a = rw (ne_eqb h.txn.0 t (let l = a.0 in λ e. omega arith)) (none_above t hs a.1)
@@ -25,7 +25,7 @@ above_less : (m n : ℕ) (hs : List Hold) → m ≤ n → AllAbove hold_number n
 above_less m n [] l h = tt
 above_less m n (x ∷ xs) l h = (omega (arith, h.0), above_less m n xs l h.1)
 
--- whether a transaction has put is told by its own hold, if it has one
+-- the hold of a transaction, if there is one, says whether the transaction has put
 put_found : (t : ℕ) (hs : List Hold) (i : ℕ) (d : Hold) → IsAscendingBy hold_number hs → place_of hold_number hs t ≡ Ok i → ((get_or hs i d).txn.0 ≡ t) × (has_put t hs ≡ (get_or hs i d).wrote)
 put_found t [] i d a h = absurd (cc)
 put_found t (g ∷ hs) i d a h = elim (cases_order g.txn.0 t) [
@@ -64,7 +64,7 @@ put_absent t (g ∷ hs) i a h = elim (cases_order g.txn.0 t) [
     below l (Ok k) e q = absurd (cc)
     below l (Err k) rec q = ap (λ (b : Bool). (b && g.wrote) || has_put t hs) (ne_eqb g.txn.0 t (λ e. omega arith)) ∙ rec k refl
 
--- a read of one that holds changes nothing
+-- a read by a holder changes nothing
 read_again : (t : Txn) (wrote : Bool) (hs : List Hold) (i : ℕ) → wrote ≡ false → IsAscendingBy hold_number hs → place_of hold_number hs t.0 ≡ Ok i → hs ≡ accessed t wrote hs
 read_again t true hs i e a p = absurd (cc)
 read_again t false hs i e a p =
@@ -74,19 +74,19 @@ read_again t false hs i e a p =
     sym (set-get_or hs i d) ∙ ap (λ (h : Hold). set hs i h) (ap (λ (n : ℕ). made n (get_or hs i d).wrote) found.0 ∙ ap (made t.0) (sym found.1))
     ∙ sym (put-set hold_number (made t.0 (has_put t.0 hs)) hs i p)
 
--- the hold of a put
+-- a put replaces the hold of its transaction, or adds one
 pub put_again : (t : Txn) (wrote : Bool) (hs : List Hold) → wrote ≡ true → put_by hold_number (record { txn = t; wrote = wrote }) hs ≡ accessed t wrote hs
 put_again t true hs e = refl
 put_again t false hs e = absurd (cc)
 
--- a read of one that does not hold
+-- a read by a transaction without a hold adds one
 put_anew : (t : Txn) (wrote : Bool) (hs : List Hold) (i : ℕ) → IsAscendingBy hold_number hs → place_of hold_number hs t.0 ≡ Err i
     → put_by hold_number (record { txn = t; wrote = wrote }) hs ≡ accessed t wrote hs
 put_anew t wrote hs i a p =
     let made : Bool → Hold = λ b. record { txn = t; wrote = b } in
     ap (λ (b : Bool). put_by hold_number (made b) hs) (sym (or_false wrote) ∙ ap (λ (b : Bool). wrote || b) (sym (put_absent t.0 hs i a p)))
 
--- a read puts a hold where there is none
+-- a read adds a hold if its transaction has none
 pub put_unless : (t : Txn) (wrote : Bool) (hs : List Hold) (added : Bool) → wrote ≡ false → IsAscendingBy hold_number hs → added ≡ is_err (place_of hold_number hs t.0)
     → cond added (put_by hold_number (record { txn = t; wrote = wrote }) hs) hs ≡ accessed t wrote hs
 put_unless t wrote hs added e a told = ap (λ (b : Bool). cond b (put_by hold_number (record { txn = t; wrote = wrote }) hs) hs) told ∙ go (place_of hold_number hs t.0) refl
@@ -95,13 +95,13 @@ put_unless t wrote hs added e a told = ap (λ (b : Bool). cond b (put_by hold_nu
     go (Ok i) p = read_again t wrote hs i e a p
     go (Err i) p = put_anew t wrote hs i a p
 
--- the hold of a put, and of a read where there is none
+-- the hold is written by a put, and by a read if there is none
 pub put_joined : (t : Txn) (wrote : Bool) (hs : List Hold) → IsAscendingBy hold_number hs → cond (wrote || is_err (place_of hold_number hs t.0))
     (put_by hold_number (record { txn = t; wrote = wrote }) hs) hs ≡ accessed t wrote hs
 put_joined t true hs a = put_again t true hs refl
 put_joined t false hs a = put_unless t false hs _ refl a refl
 
--- an edit at one cell alone
+-- an edit of the holds of one cell
 pub edited_cell : (f : Cell → List Hold) (x : Cell) (g : List Hold → List Hold) (new : List Hold) → new ≡ g (f x) → (y : Cell) → cond (is_eq (cell_cmp x y)) new (f y) ≡ cond (same_cell x y) (g (f y))
     (f y)
 edited_cell f x g new e y = go (same_cell x y) refl
@@ -110,7 +110,7 @@ edited_cell f x g new e y = go (same_cell x y) refl
     go true h = ap (λ (o : Bool). cond o new (f y)) (sym (same_cell-cell_cmp x y) ∙ h) ∙ e ∙ ap (λ (z : Cell). g (f z)) (same_cell-true x y h)
     go false h = ap (λ (o : Bool). cond o new (f y)) (sym (same_cell-cell_cmp x y) ∙ h)
 
--- an edit of the holds on x alone, by what keeps holds in their order
+-- an edit of the holds of one cell keeps all holds in order, if it keeps its list in order
 pub filed_edit : (a a' : Shown Cell Hold) (x : Cell) (g : List Hold → List Hold) → IsFiled a → ((hs : List Hold) → IsAscendingBy hold_number hs → IsAscendingBy hold_number (g hs))
     → ((y : Cell) → values_in cell_cmp a' y ≡ cond (same_cell x y) (g (values_in cell_cmp a y)) (values_in cell_cmp a y)) → IsFiled a'
 filed_edit a a' x g filed keeps edit = record { ascending = λ y. subst (λ (hs : List Hold). IsAscendingBy hold_number hs) (sym (edit y)) (go y (same_cell x y)) }

@@ -1,4 +1,4 @@
--- Who holds a cell after one more event.
+-- The holders of a cell after one more event.
 use Rattle.std.proofs.Common.{◌≡◌, ◌≢◌, ℕ, ℤ, suc, Bool, true, false, cond, not, eqb, ◌&&◌, ◌||◌, List, [], ◌∷◌, ◌++◌, ◌⊎◌, filter, map, Option, refl, sym, ◌∙◌, ap, subst, arith, inl, inr, lt-ltb, le-ltb}
 use Rattle.std.proofs.lemmas.Bool.{cases_Bool, cases_eq, cases_order, both_ways, and_from, or_left, or_right, eq-eqb, ne_eqb}
 use Rattle.teb_names.specs.declared.Txn.{Txn}
@@ -33,7 +33,7 @@ put_itself t (u ∷ us) h i = elim i [
   | inr j ↦ rw (lt-ltb u t (above_in u t us h.0 j)) (ap (λ (l : List ℕ). u ∷ l) (put_itself t us h.1 j))
 ]
 
--- the hold of a transaction of which w says whether it has put
+-- the hold of transaction u, where w says which transactions have put
 abbrev pub hold_by : (ℕ → Bool) → ℕ → Hold
 hold_by w u = record { txn = record { 0 = u }; wrote = w u }
 
@@ -52,7 +52,7 @@ module _ (t : ℕ) (w w' : ℕ → Bool) (same : (u : ℕ) → u ≢ t → w' u 
     ]
   ]
 
-  -- those that pass, where t now does
+  -- the holds of those that pass, if t passes now
   passes_too : (p p' : ℕ → Bool) → p' t ≡ true → ((u : ℕ) → u ≢ t → p' u ≡ p u) → (us : List ℕ) → IsAscendingBy number us → In t us
       → map (hold_by w') (filter p' us) ≡ put_by hold_number (hold_by w' t) (map (hold_by w) (filter p us))
   passes_too p p' here else us h i =
@@ -78,11 +78,11 @@ put_some t w p on pass (u ∷ us) i = elim i [
     go true ih = ap (λ (b : Bool). (eqb u t && w u) || b) ih ∙ or_true (eqb u t && w u)
     go false ih = ih
 
--- whether t has put is told by the holds of those that pass
+-- t has put if and only if its hold says so, if every transaction that has put passes
 put_told : (t : ℕ) (w p : ℕ → Bool) → (w t ≡ true → p t ≡ true) → (us : List ℕ) → In t us → has_put t (map (hold_by w) (filter p us)) ≡ w t
 put_told t w p pass us i = elim (cases_Bool (w t)) [ inl e ↦ put_some t w p e (pass e) us i ∙ sym e | inr e ↦ put_none t w e (filter p us) ∙ sym e ]
 
--- those that pass, where t no longer does
+-- the holds of those that pass, if t no longer does
 passes_no_more : (t : ℕ) (w p p' : ℕ → Bool) → ((u : ℕ) → p' u ≡ (p u && not (eqb u t))) → (us : List ℕ) → map (hold_by w) (filter p' us) ≡ released t (map (hold_by w) (filter p us))
 passes_no_more t w p p' f [] = refl
 passes_no_more t w p p' f (u ∷ us) = go (p u) (eqb u t) refl (f u) (passes_no_more t w p p' f us)
@@ -93,7 +93,7 @@ passes_no_more t w p p' f (u ∷ us) = go (p u) (eqb u t) refl (f u) (passes_no_
     go true false q e ih = rw (e, q) (ap (λ (l : List Hold). hold_by w u ∷ l) ih)
     go false b q e ih = rw e ih
 
--- tests that agree, and holds that agree where they pass
+-- the holds are the same if the tests agree, and the holds of those that pass do
 same_holds : (w w' p p' : ℕ → Bool) → ((u : ℕ) → p' u ≡ p u) → ((u : ℕ) → p u ≡ true → w' u ≡ w u) → (us : List ℕ) → map (hold_by w') (filter p' us) ≡ map (hold_by w) (filter p us)
 same_holds w w' p p' f g [] = refl
 same_holds w w' p p' f g (u ∷ us) = go (p u) (f u) (g u) (same_holds w w' p p' f g us)
@@ -112,7 +112,7 @@ last_off w p m off (u ∷ us) = go (p u) (last_off w p m off us)
     go true ih = ap (λ (l : List Hold). hold_by w u ∷ l) ih
     go false ih = ih
 
--- what one more event tells of each transaction
+-- what one more event changes in the state of each transaction
 ends_done : (b d c a : Bool) → (b && not (d || c) && not a) ≡ (b && not c && not a && not d)
 ends_done true true true a = refl
 ends_done true true false true = refl
@@ -148,7 +148,7 @@ moved_not true false c true = refl
 moved_not true false c false = refl
 moved_not false b c d = refl
 
--- t finishes
+-- after t finishes, its holds are released
 finished_holds : (S : Setup) (P : List Event) (n t : ℕ) (e : Event) (x : Cell) → begun_count (e ∷ P) ≡ begun_count P → ((u : ℕ) → on S (e ∷ P) n u ≡ on S P n u)
     → ((u : ℕ) → unfinished (e ∷ P) u ≡ (unfinished P u && not (eqb u t)))
     → ((u : ℕ) → wrote (e ∷ P) u x ≡ wrote P u x) → ((u : ℕ) → got (e ∷ P) u x ≡ got P u x) → holds_in S (e ∷ P) n x ≡ released t (holds_in S P n x)
@@ -166,7 +166,7 @@ released_off S P n x t off = sym (passes_no_more t (λ u. wrote P u x) (holds S 
     go u true h o = elim o [ inl e ↦ absurd (both_ways _ (ap (holds S P n x) e ∙ off) h) | inr ne ↦ sym (ap not (ne_eqb u t ne)) ]
     go u false h o = refl
 
--- whoever holds x has accessed it
+-- a transaction that holds x has accessed it
 pub holder_accessed : (S : Setup) (P : List Event) (n : ℕ) (x : Cell) (t : ℕ) → (wrote P t x || got P t x) ≡ false → holds S P n x t ≡ false
 unfolding holds
 holder_accessed S P n x t h = ap (λ (b : Bool). on S P n t && unfinished P t && b) h ∙ none (on S P n t) (unfinished P t)
@@ -184,14 +184,14 @@ gone_holds : (S : Setup) (P : List Event) (n : ℕ) (t : Txn) (c : Cause) (x : C
 gone_holds S P n t c x = finished_holds S P n t.0 (Gone t c) x (unfold begun_count in refl) (λ u. unfold on in unfold spot_of in refl) (unfinished_gone P t c) (λ u. wrote-cons (Gone t c) P u x)
     (λ u. got-cons (Gone t c) P u x)
 
--- nothing changes that matters on x
+-- the holds of x are the same after an event that changes none of them
 kept_holds : (S : Setup) (P : List Event) (n : ℕ) (e : Event) (x : Cell) → begun_count (e ∷ P) ≡ begun_count P → ((u : ℕ) → holds S (e ∷ P) n x u ≡ holds S P n x u)
     → ((u : ℕ) → holds S P n x u ≡ true → wrote (e ∷ P) u x ≡ wrote P u x) → holds_in S (e ∷ P) n x ≡ holds_in S P n x
 unfolding txns
 kept_holds S P n e x c h w = ap (λ (m : ℕ). map (hold_of (e ∷ P) x) (filter (holds S (e ∷ P) n x) (numbers m))) c
     ∙ same_holds (λ u. wrote P u x) (λ u. wrote (e ∷ P) u x) (holds S P n x) (holds S (e ∷ P) n x) h w (numbers (begun_count P))
 
--- t accesses x
+-- after t accesses x, the holds of x are those before it with this access
 accessed_holds : (S : Setup) (P : List Event) (n : ℕ) (t : Txn) (wr : Bool) (e : Event) (x : Cell) → MayHold S P n t.0 → begun_count (e ∷ P) ≡ begun_count P
     → ((u : ℕ) → u ≢ t.0 → holds S (e ∷ P) n x u ≡ holds S P n x u)
     → ((u : ℕ) → u ≢ t.0 → wrote (e ∷ P) u x ≡ wrote P u x) → holds S (e ∷ P) n x t.0 ≡ true → wrote (e ∷ P) t.0 x ≡ (wr || wrote P t.0 x) → holds_in S (e ∷ P) n x ≡ accessed t wr (holds_in S P n x)
@@ -250,7 +250,7 @@ put_elsewhere S P n t x y v o =
     let puts : (u : ℕ) → wrote (e ∷ P) u y ≡ wrote P u y = λ u. wrote-cons e P u y ∙ and_false (eqb t.0 u) (same_cell x y) (wrote P u y) o in
     kept_holds S P n e y refl (λ u j. on S P n u && unended u j && (puts u j || gets u j)) (λ u _. puts u)
 
--- a book after one event more
+-- the book after one more event
 module _ (b b' : Held) (S : Setup) (P : List Event) (n : ℕ) (t : Txn) (stood : HoldsOf b S P n) where
   pub stands_got : (x : Cell) (w : Txn) (v : Option ℤ) → MayHold S P n t.0 → shown b' x ≡ accessed t false (shown b x) → ((y : Cell) → same_cell x y ≡ false → shown b' y ≡ shown b y)
       → HoldsOf b' S (Got t x w v ∷ P) n
@@ -283,7 +283,7 @@ kept_inert : (S : Setup) (P : List Event) (n : ℕ) (e : Event) (x : Cell) → b
 unfolding holds
 kept_inert S P n e x c o f w g = kept_holds S P n e x c (λ u j. o u j && f u j && (w u j || g u j)) (λ u _. w u)
 
--- one of a transaction that does not hold x before, nor after
+-- an event of a transaction that does not hold x, before or after it
 kept_off : (S : Setup) (P : List Event) (n t : ℕ) (e : Event) (x : Cell) → begun_count (e ∷ P) ≡ begun_count P → holds S P n x t ≡ false → holds S (e ∷ P) n x t ≡ false
     → ((u : ℕ) → u ≢ t → holds S (e ∷ P) n x u ≡ holds S P n x u) → ((u : ℕ) → u ≢ t → wrote (e ∷ P) u x ≡ wrote P u x) → holds_in S (e ∷ P) n x ≡ holds_in S P n x
 kept_off S P n t e x c before after h w = kept_holds S P n e x c
@@ -294,7 +294,7 @@ off_holds : (S : Setup) (H : List Event) (n : ℕ) (x : Cell) (u : ℕ) → on S
 unfolding holds
 off_holds S H n x u e = ap (λ (b : Bool). b && unfinished H u && (wrote H u x || got H u x)) e
 
--- an event that changes nobody else
+-- an event that changes no other transaction
 others_same : (S : Setup) (P : List Event) (n t : ℕ) (e : Event) (x : Cell) → ((u : ℕ) → u ≢ t → on S (e ∷ P) n u ≡ on S P n u) → ((u : ℕ) → u ≢ t → unfinished (e ∷ P) u ≡ unfinished P u)
     → ((u : ℕ) → u ≢ t → wrote (e ∷ P) u x ≡ wrote P u x) → ((u : ℕ) → u ≢ t → got (e ∷ P) u x ≡ got P u x) → (u : ℕ) → u ≢ t → holds S (e ∷ P) n x u ≡ holds S P n x u
 unfolding holds
@@ -303,7 +303,7 @@ others_same S P n t e x o f w g u ne = λ j. o u ne j && f u ne j && (w u ne j |
 not_other : (t u : ℕ) → u ≢ t → eqb t u ≡ false
 not_other t u ne = ne_eqb t u (λ q. ne (sym q))
 
--- a new transaction, that has not accessed x
+-- a new transaction, which has not accessed x
 began_holds : (S : Setup) (P : List Event) (n : ℕ) (t : Txn) (s : Session) (k : Kind) (i : ℕ) (x : Cell) → t.0 ≡ suc (begun_count P) → wrote P t.0 x ≡ false → got P t.0 x ≡ false
     → holds_in S (Began t s k i ∷ P) n x ≡ holds_in S P n x
 unfolding begun_count numbers txns on spot_of
@@ -359,6 +359,6 @@ holds_left S P n (Gone t c) h x =
     (λ u _. puts u)
 holds_left S P n (Began t s k i) h x = began_holds S P n t s k i x h.0 (h.1 x).0 (h.1 x).1
 
--- so a book that stood for the history before it stands for the history with it
+-- if an event leaves the holds, a book that is right for the history before it is right for the history with it
 pub stands_left : (b : Held) (S : Setup) (P : List Event) (n : ℕ) (e : Event) → LeavesHolds S P n e → HoldsOf b S P n → HoldsOf b S (e ∷ P) n
 stands_left b S P n e l stood = record { shows = λ x. stood.shows x ∙ sym (holds_left S P n e l x) }

@@ -1,4 +1,4 @@
--- What is left to release of the holds of a transaction that finishes, event by event of its own.
+-- The release of the holds of a transaction that finishes, event by event.
 use Rattle.std.proofs.Common.{◌≡◌, ℕ, ℤ, Bool, true, false, cond, not, eqb, ◌||◌, is_some, List, [], ◌∷◌, ◌⊎◌, Option, Some, None, refl, sym, ◌∙◌, ap, inl, inr}
 use Rattle.std.specs.List.{list_any}
 use Rattle.teb_names.specs.declared.Cell.{Cell}
@@ -18,19 +18,19 @@ use Rattle.hold_book.specs.Holders.{HoldsOf}
 use Rattle.hold_book.proofs.Holders.{stands_done, stands_gone, released_off, holder_accessed}
 use Rattle.teb_names.proofs.SameCells.{same_cell-true}
 
--- the event accesses x
+-- the event is an access of x
 abbrev pub is_access : Cell → Event → Bool
 is_access x e = is_some (put_in x e) || is_some (got_in x e)
 
--- one of the events does
+-- one of the events is an access of x
 abbrev pub accesses : List Event → Cell → Bool
 accesses es x = list_any (is_access x) es
 
--- the holds of everybody but t, where b tells so
+-- the holds of the others if b is true, and else all holds
 abbrev pub released_if : Bool → ℕ → List Hold → List Hold
 released_if b t hs = cond b (released t hs) hs
 
--- an access of y is one of x where they are the same cell
+-- an event that accesses y accesses x if and only if x and y are the same cell
 pub access_of : (e : Event) (y : Cell) → ((t : Txn) × (w : Txn) × (v : Option ℤ) × (e ≡ Got t y w v)) ⊎ ((t : Txn) × (v : Option ℤ) × (e ≡ Put t y v)) → (x : Cell) → is_access x e ≡ same_cell y x
 access_of e y o x = elim o [ inl q ↦ ap (is_access x) q.3 ∙ some_if (same_cell y x) q.2 | inr q ↦ ap (is_access x) q.2 ∙ or_none (same_cell y x) q.1 ]
   where
@@ -51,12 +51,12 @@ released_twice t (g ∷ hs) = go (eqb g.txn.0 t) refl (released_twice t hs)
     go false q ih = rw q (ap (λ (l : List Hold). g ∷ l) ih)
 
 module _ (t : ℕ) where
-  -- t is released from the book a, and the events `left` of t's `all` are still to be walked
+  -- t is being released from the book a: b is the book so far, and of t's events `all`, those in `left` are still to be visited
   pub record IsReleasing (a b : Held) (all left : List Event) : Type 0 where
     pub shown : (x : Cell) → released_if (accesses left x) t (shown b x) ≡ released_if (accesses all x) t (shown a x)
     pub spare : b.spare ≡ a.spare
 
-  -- an access of y, on which t holds no more
+  -- after an access of y is visited, t holds y no more
   pub releasing_next : (a b c : Held) (all left rest : List Event) (e : Event) (y : Cell) → IsReleasing a b all left → left ≡ e ∷ rest → ((x : Cell) → is_access x e ≡ same_cell y x)
       → shown c y ≡ released t (shown b y) → ((x : Cell) → same_cell y x ≡ false → shown c x ≡ shown b x) → c.spare ≡ b.spare → IsReleasing a c all rest
   releasing_next a b c all left rest e y h q same here else spare = record {
@@ -75,7 +75,7 @@ module _ (t : ℕ) where
       go x true f r = ap (λ (hs : List Hold). released_if r t hs) ((λ j. shown c (sym (same_cell-true y x f) j)) ∙ here ∙ (λ j. released t (shown b (same_cell-true y x f j)))) ∙ once r (shown b x)
       go x false f r = ap (λ (hs : List Hold). released_if r t hs) (else x f)
 
--- t's own events tell which cells it has accessed
+-- t's own events say which cells it has accessed
 accessed_own : (H : List Event) (t : ℕ) (x : Cell) → accesses (own_events H t) x ≡ (wrote H t x || got H t x)
 accessed_own H t x = either (own_events H t) ∙ (λ j. sym (wrote_own H t x) j || sym (got_own H t x) j)
   where
@@ -89,13 +89,13 @@ accessed_own H t x = either (own_events H t) ∙ (λ j. sym (wrote_own H t x) j 
     either [] = refl
     either (e ∷ es) = ap (λ (b : Bool). is_access x e || b) (either es) ∙ regroup (is_some (put_in x e)) (is_some (got_in x e)) _ _
 
--- when nothing is left
+-- once no event is left, all holds are released
 pub released_own : (H : List Event) (t : ℕ) (a b : Held) (left : List Event) → IsReleasing t a b (own_events H t) left → left ≡ [] → (x : Cell) → shown b x ≡ released_if (wrote H t x || got H t x) t
     (shown a x)
 released_own H t a b left h q x =
     ap (λ (es : List Event). released_if (accesses es x) t (shown b x)) (sym q) ∙ h.shown x ∙ ap (λ (p : Bool). released_if p t (shown a x)) (accessed_own H t x)
 
--- whoever holds a cell has accessed it: a release of what t has accessed is one of all that it holds
+-- a transaction that holds a cell has accessed it, so releasing the cells that t has accessed releases all its holds
 module _ (b b' : Held) (S : Setup) (P : List Event) (n : ℕ) (t : Txn) (stood : HoldsOf b S P n) where
   all_released : (e : Event) → ((x : Cell) → (wrote (e ∷ P) t.0 x || got (e ∷ P) t.0 x) ≡ (wrote P t.0 x || got P t.0 x))
       → ((x : Cell) → shown b' x ≡ released_if (wrote (e ∷ P) t.0 x || got (e ∷ P) t.0 x) t.0 (shown b x)) → (x : Cell) → shown b' x ≡ released t.0 (shown b x)

@@ -1,4 +1,4 @@
--- What an input is, from what its parts were read as.
+-- What an input is, from the results of reading its parts.
 use Rattle.std.proofs.Common.{◌≡◌, ℕ, zero, suc, ◌<◌, ◌≤◌, List, [], ◌∷◌, length, Option, Some, None, Ok, Err, refl, sym, ◌∙◌, arith}
 use Rattle.std.proofs.lemmas.Bool.{le-ltb, lt-ltb}
 use Rattle.std.specs.Io.KnownBytes.{IsAtEnd}
@@ -28,7 +28,7 @@ module _ (bytes tree text : List ℕ) (few : length bytes ≤ MOST_BYTES) (parts
   under : input_of bytes ≡ task_under (setup_of_text tree) text
   under = rw (le-ltb MOST_BYTES (length bytes) few, parts, le-ltb MOST_LINES (length (lines_of text)) lines) refl
 
-  -- by what its script was read as
+  -- from the result of reading its script
   scripted : (r : Result (List Line) ScriptError) → script_of (names_of m) m.format text ≡ r → input_of bytes ≡ task_of m r
   scripted r s = under ∙ rw (setup, s) refl
 
@@ -39,7 +39,7 @@ module _ (bytes tree text : List ℕ) (few : length bytes ≤ MOST_BYTES) (parts
   is_bad (script.BadLine n why) s = scripted (Err (script.BadLine n why)) s
   is_bad script.OutOfMemory s = tt
 
--- there are lists longer than any number
+-- for each number there is a longer list
 long : (n : ℕ) → (xs : List ℕ) × (n < length xs)
 long zero = (0 ∷ [], omega arith)
 long (suc n) = let l = long n in (0 ∷ l.0, omega (arith, l.1))

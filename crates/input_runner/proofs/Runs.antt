@@ -1,4 +1,4 @@
--- Runs over the store of a whole setup: what they name has a name, and their serial order serializes them.
+-- Runs over the store of a whole setup: everything that they name has a name, and the serial order serializes them.
 use Rattle.std.proofs.Common.{◌≡◌, ℕ, Option, List, [], ◌∷◌, ◌++◌, length, Some, refl, sym, ◌∙◌, ap, ap₂, subst, subst₂}
 use Rattle.std.specs.Prelude.{All, ◌≤◌}
 use Rattle.teb_names.specs.declared.Entry.{Entry}
@@ -35,7 +35,7 @@ use Rattle.engine_core.specs.EngineModel.{EngineModel}
 use Rattle.command_output.specs.Shown.{Shown}
 use Rattle.input_runner.specs.Runs.{AreTurns, HasRun, IsReplay, IsRun, IsRunOver, IsSerialized, Run, Says}
 
--- the log of the driver has the replies to its requests
+-- the driver's log has the replies to its requests
 follows_log : (X : Store) (H : List Event) (ws : List Seat) (entries : List Entry) → Follows X H ws entries → answers_of entries ≡ log_of X H (requests_of entries)
 unfolding Follows
 follows_log X H ws [] f = refl
@@ -49,7 +49,7 @@ module _ (m : SetupView) (whole : IsWhole m) (named : IsNamed m) where
       reply_named m whole named _ (subst (λ (H : List Event). All (λ (a : Answered). ReplyWithin (store_of_view m) a.reply) (log_of (store_of_view m) H asked)) (history_none (store_of_view m) [])
       (log_within (store_of_view m) (sound m whole) [] asked) k d low)
 
--- of such a run: what its replies and final rows name has a name, and it is serialized
+-- such a run: everything that its replies and final rows name has a name, and it is serialized
 module _ (m : SetupView) (X : Store) (names : NameBook) (log : List Answered) (H : List Event) (over : IsRunOver m X names log H) where
   pub replies_named : (book : NameBook) (now : List Answered) → book ≡ names → now ≡ log → All (λ (a : Answered). ReplyNamed book a.reply) now
   replies_named book now b l =
@@ -66,7 +66,7 @@ module _ (m : SetupView) (X : Store) (names : NameBook) (log : List Answered) (H
       subst (λ (G : List Event). Serializes (store_of_view m) G (serial_order (store_of_view m).setup G)) (sym (history_is m X names H history_over))
       (every_run_serializes (store_of_view m) (sound m over.whole) over.asked)
 
--- what is put out of a run, where its text says so
+-- the output of a run, if its text is as S says
 pub is_run : (R : Run) (S : Says) (Tells : NameBook → List Answered → Type 0) (task : Task) (e : EngineModel) (d : Shown) (text : List ℕ) (run : HasRun R Tells task e)
     → S e.store e.names e.events run.answers text
     → d ≡ record { status = 0; text = text; history = Some e.events } → IsRun R S task d
@@ -80,12 +80,12 @@ is_run R S Tells task e d text run said put = record {
       (subst (λ (t : List ℕ). S e.store e.names e.events run.answers t) (sym (ap (λ (o : Shown). o.text) put)) said);
 }
 
--- so the history that was kept of it is serialized
+-- so the history that was kept of the run is serialized
 pub is_serialized : (m : SetupView) (X : Store) (names : NameBook) (log : List Answered) (H : List Event) (history : Option (List Event)) → IsRunOver m X names log H → history ≡ Some H
     → IsSerialized (λ (s : SetupView). m ≡ s) history
 is_serialized m X names log H history over kept = rw kept (m, refl, serialized m X names log H over)
 
--- an engine's replies and history, where its store is the setup's, are a run over it
+-- an engine's replies and history are a run over a setup if its store is the setup's
 module _ (m : SetupView) (X Y : Store) (names : NameBook) (log : List Answered) (H : List Event) (whole : IsWhole m) (nodes : IsNamed m) (store : X ≡ store_of_view m) (kept : Y ≡ X)
     (named : names ≡ names_of m) where
   run_over : (asked : Requests) → log ≡ log_of X [] asked → H ≡ history_after X [] asked → IsRunOver m Y names log H
@@ -108,14 +108,14 @@ module _ (m : SetupView) (X Y : Store) (names : NameBook) (log : List Answered) 
   pub turns_over : (scripts : List (Session × List Line)) → IsOf (Turns X (scripts_on scripts)) X log H → IsRunOver m Y names log H
   turns_over scripts of = run_over (requests_of of.entries) (of.replies ∙ follows_log X [] (seated (scripts_on scripts)) of.entries of.holds.follows) of.events
 
--- the answers of a replay that begins with nothing
+-- the replies of a replay that begins with an empty history
 pub replayed_is : (X Y : Store) (H K : List Event) (xs ys : List Line) → X ≡ Y → H ≡ [] → xs ≡ ys → K ≡ history_after X H (replayed X H xs) → IsReplay Y ys (log_of X H (replayed X H xs)) K
 replayed_is X Y H K xs ys same none lines events = record {
   replies = ap₂ (λ (Z : Store) (J : List Event). log_of Z J (replayed Z J xs)) same none ∙ ap (λ (ls : List Line). log_of Y [] (replayed Y [] ls)) lines;
   events = events ∙ ap₂ (λ (Z : Store) (J : List Event). history_after Z J (replayed Z J xs)) same none ∙ ap (λ (ls : List Line). history_after Y [] (replayed Y [] ls)) lines;
 }
 
--- the answers of the driver to the scripts of lines
+-- the replies of the driver to the scripts of lines
 pub turned : (X : Store) (lines : List Line) (scripts : List (Session × List Line)) (Tells : List Answered → Type 0) (H : List Event) (before after : ℕ) → scripts ≡ scripts_of lines
     → AreAnswers (Turns X (scripts_on scripts)) X (scripts_on scripts) Tells H before after → (answers : List Answered) × Tells answers × AreTurns X lines answers H
 turned X lines scripts Tells H before after e a = (

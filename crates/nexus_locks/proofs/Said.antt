@@ -1,4 +1,4 @@
--- What a locks node says.
+-- The verdicts of a locks node.
 use Rattle.std.proofs.Common.{◌≡◌, ℕ, Bool, ltb, List, find, Option, Some, None, refl, ◌∙◌}
 use Rattle.teb_names.specs.declared.Cell.{Cell}
 use Rattle.teb_names.specs.declared.Spot.{Spot}
@@ -17,7 +17,7 @@ use Rattle.teb_rules.specs.Controls.{blocks, on_access, validate, gate}
 use Rattle.teb_rules.specs.Stops.{on_begin}
 use Rattle.access_conflicts.specs.Waits.{some_txn, wait_for_txn}
 
--- what a locks node says of an access
+-- the verdict of a locks node on an access
 pub locks_access : (S : Setup) (H : List Event) (n t : ℕ) (x : Cell) (write : Bool) (v : Verdict) → (row S.tree n).control ≡ Locks
     → v ≡ wait_for_txn (some_txn (find (blocks S H n t x write) (txns H))) → v ≡ on_access (row S.tree n).control S H n t x write
 unfolding on_access

@@ -1,4 +1,4 @@
--- The stop along some nodes, by what each says: how a loop over the nodes comes to it.
+-- The stop along a list of nodes, as a loop over their verdicts finds it.
 use Rattle.std.proofs.Common.{◌≡◌, ℕ, zero, suc, ◌<◌, ◌≤◌, ◌+◌, List, [], ◌∷◌, length, get_or, drop, arith, refl, sym, ap, ◌∙◌}
 use Rattle.std.proofs.Math.Seq.{drop-cons}
 use Rattle.teb_names.specs.declared.Node.{Node}
@@ -9,7 +9,7 @@ use Rattle.teb_rules.specs.declared.Stop.TheVariants as stop
 use Rattle.teb_rules.specs.Stops.{stop_with, stop_of}
 use Rattle.cc_tree.specs.Grown.{node_numbers}
 
--- where node i goes on, the nodes from i + 1 on still decide
+-- if node i goes on, the nodes from i + 1 on decide
 pub stop_next : (f : ℕ → Verdict) (ns : List Node) (i : ℕ) (d : Node) (v : Verdict) → i < length ns → v ≡ f (get_or ns i d).0 → v ≡ Go → stop_of f (node_numbers (drop i ns)) ≡ stop_of f
     (node_numbers ns) → stop_of f (node_numbers (drop (i + 1) ns)) ≡ stop_of f (node_numbers ns)
 unfolding stop_of
@@ -18,7 +18,7 @@ stop_next f ns i d v l q e k =
     ap (λ (j : ℕ). stop_of f (node_numbers (drop j ns))) (sym n)
     ∙ sym (ap (λ (ms : List Node). stop_of f (node_numbers ms)) (drop-cons ns i d l) ∙ ap (λ (w : Verdict). stop_with (get_or ns i d).0 w (stop_of f (node_numbers (drop (suc i) ns)))) (sym q ∙ e)) ∙ k
 
--- where node i does not go on, its verdict decides
+-- if node i does not go on, its verdict decides
 pub stop_here : (f : ℕ → Verdict) (ns : List Node) (i : ℕ) (d : Node) (v : Verdict) → i < length ns → v ≡ f (get_or ns i d).0 → (v ≡ Go → ⊥) → stop_of f (node_numbers (drop i ns)) ≡ stop_of f
     (node_numbers ns) → stop_with (get_or ns i d).0 v stop.Go ≡ stop_of f (node_numbers ns)
 unfolding stop_of
@@ -31,7 +31,7 @@ stop_here f ns i d v l q w k =
     ends n (Wait u) rest w = refl
     ends n (Break b) rest w = refl
 
--- where no node is left, nobody stops it
+-- if no node is left, nothing stops
 pub stop_end : (f : ℕ → Verdict) (ns : List Node) (i : ℕ) → length ns ≤ i → stop_of f (node_numbers (drop i ns)) ≡ stop_of f (node_numbers ns) → stop.Go ≡ stop_of f (node_numbers ns)
 unfolding stop_of
 stop_end f ns i l k = sym (ap (λ (ms : List Node). stop_of f (node_numbers ms)) (drop_end ns i l)) ∙ k

@@ -1,4 +1,4 @@
--- A replay comes to its end: nobody is unfinished, and nobody has to be told.
+-- At the end of a replay nobody is unfinished, and every session was told of its abort.
 use Rattle.std.proofs.Common.{◌≡◌, ◌≢◌, ◌⊎◌, ℕ, ◌<◌, ◌≤◌, Bool, true, false, cond, ◌&&◌, leb, List, [], ◌∷◌, map, filter, is_some, Option, Some, None, refl, sym, ◌∙◌, ap, subst, inl, inr, arith, eqb-true, le-leb}
 use Rattle.std.specs.Prelude.{unwrap_or}
 use Rattle.std.proofs.lemmas.Bool.{both_ways, cases_eq, false_from_ne_true, and_parts}
@@ -36,7 +36,7 @@ use Rattle.tree_switch.specs.Refusals.{IsDrained}
 abbrev IsFree : List Event → ℕ → Type 0
 IsFree H s = (v : ℕ) → Holds H s v ≡ false
 
--- session s has let go what it held, and no other session has taken anything
+-- session s holds nothing, and every session that held nothing still holds nothing
 record HasLetGo (H K : List Event) (s : ℕ) : Type 0 where
   own : IsFree K s
   others : (r : ℕ) → IsFree H r → IsFree K r
@@ -58,7 +58,7 @@ module _ (X : Store) (sound : IsSound X.setup) where
   one H s t v g h k =
       holds_one X.setup H t v g.legal (held_began X.setup H s t g.legal h) (held_began X.setup H s v g.legal k) (and_parts _ _ h).1 (and_parts _ _ k).1 (session H s t h ∙ sym (session H s v k))
 
-  -- t was the one that s held, and is let go
+  -- s held t, and lets it go
   let_go : (H K : List Event) (s t : ℕ) → Good X.setup H → Holds H s t ≡ true → ((r v : ℕ) → t ≢ v → Holds K r v ≡ Holds H r v) → ((r : ℕ) → Holds K r t ≡ false) → HasLetGo H K s
   let_go H K s t g h same gone = record {
     own = λ v. elim (cases_eq t v) [
@@ -71,7 +71,7 @@ module _ (X : Store) (sound : IsSound X.setup) where
     ];
   }
 
-  -- what is held and not aborted is unfinished
+  -- a transaction that is held and not aborted is unfinished
   at_work : (H : List Event) (s t : ℕ) → held H s ≡ Some t → aborted H t ≡ false → unfinished H t ≡ true
   at_work H s t e a = elim (holds_cases H s t (held_holds H s t e)) [ inl u ↦ u | inr u ↦ absurd (both_ways _ a (untold_gone H t u)) ]
 
@@ -91,7 +91,7 @@ module _ (X : Store) (sound : IsSound X.setup) where
   unfolding answer
   ended H s g r = rw r (ended_by H s (held H s) g refl)
 
-  -- after the Ends of these sessions, they hold nothing, and whoever held nothing still does
+  -- after the Ends of these sessions they hold nothing, and a session that held nothing still does
   all_ended : (ns : List ℕ) → ((n : ℕ) → In n ns → in_range n ≡ true) → (H : List Event) → Good X.setup H → (s : ℕ) → IsFree H s ⊎ In s ns → IsFree (history_after X H (map end ns)) s
   unfolding history_after
   all_ended [] range H g s (inl f) = f
@@ -108,7 +108,7 @@ module _ (X : Store) (sound : IsSound X.setup) where
       ])
 
   module _ (H : List Event) (g : Good X.setup H) where
-    -- a session that holds something is one of those that there are
+    -- a session that holds a transaction is one of 1 to SESSIONS
     holder : (s t : ℕ) → held H s ≡ Some t → (0 < s) × (s ≤ SESSIONS)
     holder s t e =
         let h = held_holds H s t e in

@@ -22,7 +22,7 @@ use Rattle.phase_runner.specs.Inputs.{following, is_long, phases_of, script_in, 
 use Rattle.phase_runner.specs.Parts.{Pair, pairs_of}
 use Rattle.phase_runner.specs.Steps.{AllFollow, AreFollowing}
 
--- what came before a result that is there
+-- if the whole result is Ok, so is its first step
 gave : {A B : Type 0} (r : Result A PhaseError) (f : A → Result B PhaseError) (b : B) → r >>= f ≡ Ok b → (a : A) × (r ≡ Ok a) × (f a ≡ Ok b)
 gave (Ok a) f b e = (a, refl, e)
 gave (Err w) f b e = absurd (cc)
@@ -31,7 +31,7 @@ unless_fault : {B : Type 0} (c : Bool) (w : PhaseError) (r : Result B PhaseError
 unless_fault true w r b e = absurd (cc)
 unless_fault false w r b e = (refl, e)
 
--- tasks that were read before others
+-- tasks that are already read, and then the result of the rest
 abbrev pub behind : List Task → Result (List Task) PhaseError → Result (List Task) PhaseError
 behind xs r = r >>= (λ later. Ok (xs ++ later))
 
@@ -39,7 +39,7 @@ one_more : (xs : List Task) (task : Task) (r : Result (List Task) PhaseError) �
 one_more xs task (Ok later) = ap (λ (l : List Task). let r : Result (List Task) PhaseError = Ok l in r) (sym (append_assoc xs (task ∷ []) later))
 one_more xs task (Err e) = refl
 
--- one pair after the others
+-- one more pair is read
 pub one_read : (xs : List Task) (k : ℕ) (before : Option Task) (p : Pair) (more : List Pair) (task : Task) → task_at k before p ≡ Ok task → behind xs (tasks_from k before (p ∷ more)) ≡ behind
     (xs ++ task ∷ []) (tasks_from (k + 1) (Some task) more)
 one_read xs k before p more task e = rw e (one_more xs task (tasks_from (k + 1) (Some task) more))
@@ -47,7 +47,7 @@ one_read xs k before p more task e = rw e (one_more xs task (tasks_from (k + 1) 
 pub one_bad : (xs : List Task) (k : ℕ) (before : Option Task) (p : Pair) (more : List Pair) (w : PhaseError) → task_at k before p ≡ Err w → behind xs (tasks_from k before (p ∷ more)) ≡ Err w
 one_bad xs k before p more w e = rw e refl
 
--- a setup that may follow
+-- a setup that may follow the task before it
 follows : (k : ℕ) (before : Task) (m : SetupView) (u : Unit {0}) → following k (Some before) m ≡ Ok u → (m.tables ≡ before.setup.tables) × (m.rows ≡ [])
 follows k before m u e =
     let a = unless_fault (not (same_names m.tables before.setup.tables)) (BadPhase k Tables) _ u e in

@@ -1,4 +1,4 @@
--- Phases, one after another.
+-- Phases that run one after another.
 use Rattle.std.proofs.Common.{◌≡◌, ℕ, List, [], ◌∷◌, ◌++◌, length, drop, append_assoc, refl, arith, sym, ◌∙◌, ap, subst}
 use Rattle.std.proofs.lemmas.List.{append-nil}
 use Rattle.teb_names.specs.declared.naming.NameBook.{NameBook}
@@ -16,12 +16,12 @@ use Rattle.phase_runner.specs.Steps.{AllFollow, AreFollowing, HasRun}
 abbrev pub Leaves : EngineModel → Table → Type 0
 Leaves e rows = IsFinalRows e.store e.events rows
 
--- the first one starts with its own rows
+-- the first task starts with its own rows
 abbrev pub RunAll : List Task → List EngineModel → List ℕ → Type 0
 RunAll [] es text = text ≡ []
 RunAll (task ∷ later) es text = RunFrom task.setup.rows (task ∷ later) es text
 
--- the present engine has come to its end, and has left some rows; from them these tasks may go on, and whatever they write belongs behind the text so far
+-- the present engine is drained and has left some rows; from them the later tasks may go on, and their text follows the text so far
 pub record MayGoOn (all later : List Task) (p : Course) (text : List ℕ) : Type 0 where
   pub course : IsCourse p
   pub drained : IsDrained p.present.events
@@ -31,7 +31,7 @@ pub record MayGoOn (all later : List Task) (p : Course) (text : List ℕ) : Type
   pub goes : (R : Table) → Leaves p.present R → (es : List EngineModel) (back : List ℕ) → RunFrom R later es back → RunAll all (phases p ++ es) (text ++ back)
 
 module _ (rows : Table) (task : Task) (later : List Task) (p : Course) (old new : List ℕ) (h : HasRun rows task p.present old new) where
-  -- what the tasks behind it write, behind its report
+  -- the text of the later tasks follows the report of this one
   with_later : (R : Table) → Leaves p.present R → (es : List EngineModel) (back : List ℕ) → RunFrom R later es back → RunFrom rows (task ∷ later) (p.present ∷ es) (h.front ++ back)
   with_later R leaves es back run = record {
     left = R;
@@ -44,7 +44,7 @@ module _ (rows : Table) (task : Task) (later : List Task) (p : Course) (old new 
     joined = refl;
   }
 
-  -- these are the phases before it
+  -- the engines `before` are the past phases
   module _ (before : List EngineModel) (past : p.past ≡ before) (all : List Task) (goes : (es : List EngineModel) (text : List ℕ) → RunFrom rows (task ∷ later) es text
       → RunAll all (before ++ es) (old ++ text)) where
     behind_report : (R : Table) → Leaves p.present R → (es : List EngineModel) (back : List ℕ) → RunFrom R later es back → RunAll all (phases p ++ es) (new ++ back)
@@ -74,14 +74,14 @@ first_run task later p old new course past o follow h =
 pub may_switch : (all : List Task) (task : Task) (later : List Task) (p : Course) (text : List ℕ) → MayGoOn all (task ∷ later) p text → MaySwitch p.present task.setup
 may_switch all task later p text g = record { drained = g.drained; tables = g.follow.0; rows = g.follow.1 }
 
--- and has run
+-- the next task has run
 pub next_run : (all : List Task) (task : Task) (later : List Task) (p q : Course) (text new : List ℕ) → MayGoOn all (task ∷ later) p text → IsCourse q → q.past ≡ phases p → (rows : Table)
     → Leaves p.present rows → HasRun rows task q.present text new → MayGoOn all later q new
 next_run all task later p q text new g course past rows leaves h =
     after_run rows task later q text new h (phases p) past all (λ es back run. g.goes rows leaves es back run)
     course (subst (λ (names : List (List ℕ)). AllFollow names later) (sym g.follow.0) g.follow.2)
 
--- nobody is left
+-- no task is left
 pub all_run : (all : List Task) (p : Course) (text : List ℕ) → MayGoOn all [] p text → RunInTurn all text
 all_run all p text g = go all
     (subst (λ (es : List EngineModel). RunAll all es text) (append-nil (phases p)) (subst (RunAll all (phases p ++ [])) (append-nil text) (g.goes g.rows g.left [] [] (refl, refl))))
@@ -90,7 +90,7 @@ all_run all p text g = go all
     go [] run = run
     go (task ∷ later) run = record { course = p; ran = run; serial = is_serial p g.course }
 
--- nothing was there to be taken
+-- if dropping the first element changes nothing, there was none
 pub all_taken : (xs ys : List Task) → xs ≡ ys → ys ≡ drop 1 xs → xs ≡ []
 all_taken [] ys e d = refl
 all_taken (x ∷ xs) ys e d = absurd (let z : length (x ∷ xs) ≡ length xs = ap length (e ∙ d) in omega (arith, z))

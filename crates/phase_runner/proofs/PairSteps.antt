@@ -40,7 +40,7 @@ never_input k true d x e = absurd (cc)
 never_input k false true x e = absurd (cc)
 never_input k false false x e = absurd (cc)
 
--- what stands against a setup is no fault of a part
+-- a fault that `following` finds is never a fault of a part
 following_bad : (k : ℕ) (before : Option Task) (m : SetupView) (x : InputError) → following k before m ≡ Err (BadInput x) → ⊥
 following_bad k None m x e = absurd (cc)
 following_bad k (Some b) m x e = never_input k (not (same_names m.tables b.setup.tables)) (not (length m.rows == 0)) x e
@@ -58,7 +58,7 @@ module _ (k : ℕ) (before : Option Task) (p : Pair) (m : SetupView) (setup : se
     pub is_task : (task : Task) (lines : List Line) → script_of (names_of m) m.format p.1 ≡ Ok lines → task ≡ record { setup = m; lines = lines } → IsTask (Ok task) (task_at k before p)
     is_task task lines s t = rw (t, setup, follows, s) refl
 
--- the last of what was read
+-- the last task that was read
 abbrev pub last_of : List Task → Option Task
 last_of xs = slice_get xs (length xs - 1)
 
@@ -70,7 +70,7 @@ last_pushed (x ∷ xs) task (suc n) e = last_pushed xs task n (omega (arith, e))
 last_is : (xs : List Task) (task : Task) → last_of (xs ++ task ∷ []) ≡ Some task
 last_is xs task = last_pushed xs task (length (xs ++ task ∷ []) - 1) (omega (arith, length-append xs (task ∷ [])))
 
--- what a look at it answers
+-- the last element of a list, as a lookup returns it
 pub back_is : (xs : List Task) (r : Option (Bor Task)) → is_some r ≡ nat_lt 0 (length xs) → IfSome r (λ x. x.now ≡ get_or xs (length xs - 1) x.now) → option_copied r ≡ last_of xs
 back_is [] None s l = refl
 back_is (x ∷ xs) None s l = absurd (let z : false ≡ true = grind (arith, nat_tests) in cc)
@@ -96,7 +96,7 @@ no_pair [] h = refl
 no_pair (p ∷ []) h = refl
 no_pair (p ∷ q ∷ ps) h = absurd (omega (arith, h))
 
--- what is read of all pairs, as far as the first i of them have been read
+-- the result for all pairs, if the first i of them are already read
 abbrev pub from_pair : List (Bor (List ℕ)) → ℕ → List Task → Result (List Task) PhaseError
 from_pair parts i xs = behind xs (tasks_from (i + 1) (last_of xs) (pairs_of (texts (drop (2 * i) parts))))
 

@@ -24,7 +24,7 @@ behind_first : (x : List ℕ) (xs : List (List ℕ)) → 0 < length x → length
 behind_first x [] h = h
 behind_first x (y ∷ xs) h = omega (arith, length-append x (10 ∷ join_with_byte 10 (y ∷ xs)))
 
--- a part and what stands behind it are shorter than the lines together
+-- a part and the rest after it are together shorter than the joined lines
 shorter_lines : (xs : List (List ℕ)) (p : Split) → parts_from xs ≡ Some p → length p.0 + length p.1 < length (join_with_byte 10 xs)
 unfolding parts_from
 shorter_lines [] p e = absurd (cc)
@@ -48,12 +48,12 @@ shorter_lines (x ∷ xs) p e = first (is_separator x) refl (λ q f. shorter_line
         subst (λ (r : Split). length r.0 + length r.1 < length (join_with_byte 10 (x ∷ xs))) g (omega (arith, behind_first x xs (some_byte x s)))
     first false s ih k = later xs (parts_from xs) refl ih k
 
--- so they are shorter than the bytes
+-- so they are together shorter than the bytes
 pub shorter : (bytes part rest : List ℕ) → parts_of bytes ≡ Some (part, rest) → length part + length rest < length bytes
 shorter bytes part rest e =
     subst (λ (n : List ℕ). length part + length rest < length n) (join_with_byte-slice_split 10 bytes) (shorter_lines (slice_split is_feed bytes) (part, rest) e)
 
--- what was cut off so far, before the parts of the rest
+-- the parts that were cut off so far, before the parts of the rest
 pub record IsCut (bytes rest : List ℕ) (so_far : List (Bor (List ℕ))) : Type 0 where
   pub parts : (more : List (List ℕ)) → AreParts rest more → AreParts bytes (texts so_far ++ more)
   pub small : All (λ (p : List ℕ). length p ≤ MOST_BYTES) (texts so_far)
@@ -66,7 +66,7 @@ before_more rest part behind e (q ∷ more) a = (behind, e, a)
 texts_more : (so_far now : List (Bor (List ℕ))) (p : Bor (List ℕ)) → now ≡ so_far ++ p ∷ [] → texts now ≡ texts so_far ++ p.now ∷ []
 texts_more so_far now p e = ap texts e ∙ map-append (λ (p : Bor (List ℕ)). p.now) so_far (p ∷ [])
 
--- one part more
+-- one more part is cut off
 pub one_cut : (bytes rest behind : List ℕ) (so_far now : List (Bor (List ℕ))) (p : Bor (List ℕ)) → parts_of rest ≡ Some (p.now, behind) → now ≡ so_far ++ p ∷ [] → IsCut bytes rest so_far
     → IsCut bytes behind now
 one_cut bytes rest behind so_far now p e n c =
@@ -79,7 +79,7 @@ one_cut bytes rest behind so_far now p e n c =
       within = omega (arith, c.within, s);
     }
 
--- any bytes have parts
+-- every list of bytes has parts
 some_parts : (n : ℕ) (bytes : List ℕ) (o : Option Split) → parts_of bytes ≡ o → length bytes ≤ n → (parts : List (List ℕ)) × AreParts bytes parts
 some_parts n bytes None e h = (bytes ∷ [], (e, refl))
 some_parts zero bytes (Some p) e h = absurd (omega (arith, h, shorter bytes p.0 p.1 e))

@@ -29,7 +29,7 @@ use Rattle.phase_runner.specs.Runs.{IsPhase, Table, starting_with}
 use Rattle.phase_runner.specs.Steps.{HasRun}
 use Rattle.phase_runner.proofs.Drained.{replay_drained}
 
--- the engine e, in which nothing had happened, has come to f by a replay
+-- the engine e had an empty history, and a replay turned it into f
 module _ (e f : EngineModel) (lines : List Line) (log : List Answered) (store : f.store ≡ e.store) (names : f.names ≡ e.names) where
   pub is_replay : (old : List Answered) → old ≡ [] → e.events ≡ [] → log ≡ old ++ log_of e.store e.events (replayed e.store e.events lines)
       → f.events ≡ history_after e.store e.events (replayed e.store e.events lines) → IsReplay e.store lines log f.events
@@ -67,7 +67,7 @@ module _ (e f : EngineModel) (lines : List Line) (log : List Answered) (store : 
       told = subst (λ (b : NameBook). IsReport e.store b f.events log text) names (subst (λ (X : Store). IsReport X f.names f.events log text) store told);
     }
 
--- the present engine e of a course, in which nothing had happened, has come to f by a replay
+-- the present engine e of a course had an empty history, and a replay turned it into f
 module _ (p : Course) (past : List EngineModel) (e f : EngineModel) (lines : List Line) (old log : List Answered) (course : IsCourse p) (past_is : past ≡ p.past) (present_is : e ≡ p.present)
     (new : p.present.events ≡ [])
     (store : f.store ≡ e.store) (names : f.names ≡ e.names) (empty : old ≡ []) (replies : log ≡ old ++ log_of e.store e.events (replayed e.store e.events lines))
@@ -84,7 +84,7 @@ module _ (p : Course) (past : List EngineModel) (e f : EngineModel) (lines : Lis
   pub drained_after : IsDrained f.events
   drained_after = drained e f lines log store names run past parts
 
-  -- a report of it that was put behind a text
+  -- its report, appended to a text
   pub reported_after : (d : EngineModel) (text before behind : List ℕ) → d ≡ f → IsReport f.store f.names f.events log text → behind ≡ before ++ text → (front : List ℕ)
       × IsPhase p.present.store p.present.names lines d.events front × (behind ≡ before ++ front)
   reported_after d text before behind same told joined = (
@@ -94,7 +94,7 @@ module _ (p : Course) (past : List EngineModel) (e f : EngineModel) (lines : Lis
     joined,
   )
 
-  -- it is a run over the setup of the present engine
+  -- the replay is a run over the setup of the present engine
   pub over_after : (s : Setup) → IsWhole (setup_view s) → engine.store_of s ≡ e.store → s.names ≡ e.names → length p.present.store.setup.tree ≡ length p.present.names.nodes
       → IsRunOver (setup_view s) f.store f.names log f.events
   over_after s whole q n named =
@@ -102,11 +102,11 @@ module _ (p : Course) (past : List EngineModel) (e f : EngineModel) (lines : Lis
       ∙ sym (ap (λ (d : EngineModel). length d.names.nodes) present_is) in
       run_over e f lines log store names run s whole (ap (λ (X : Store). length X.setup.tree) q ∙ nodes ∙ sym (ap (λ (b : NameBook). length b.nodes) n)) q n
 
--- what was put behind a text is a phase's report
+-- the text that was appended is the report of a phase
 abbrev pub Reported : EngineModel → List Line → EngineModel → List ℕ → List ℕ → Type 0
 Reported e lines f old new = (front : List ℕ) × IsPhase e.store e.names lines f.events front × (new ≡ old ++ front)
 
--- a task has run from these rows, where the engine that it ran in started with them
+-- a task has run from these rows, if its engine started with them
 pub has_run : (rows : Table) (task : Task) (e f : EngineModel) (lines : List Line) (old new : List ℕ) → e.store ≡ store_of_view (starting_with rows task.setup) → e.names ≡ names_of task.setup
     → lines ≡ task.lines → f.store ≡ e.store → f.names ≡ e.names → IsDrained f.events → Reported e lines f old new
     → HasRun rows task f old new
@@ -120,7 +120,7 @@ has_run rows task e f lines old new q n l store names drained r = record {
   joined = r.2;
 }
 
--- the store of a phase that has started under a setup
+-- the store of a phase that started under a setup
 module _ (s : Setup) (m : SetupView) (is : setup_view s ≡ m) (before e : EngineModel) (i : IsStarted s before e) where
   pub started_store : e.store ≡ store_of_view (starting_with e.store.rows m)
   started_store = ap₂ (λ (S : Rules) (n : ℕ). record { setup = S; tables = n; rows = e.store.rows }) i.setup i.tables ∙ ap (λ (k : SetupView). store_of_view (starting_with e.store.rows k)) is
@@ -128,7 +128,7 @@ module _ (s : Setup) (m : SetupView) (is : setup_view s ≡ m) (before e : Engin
   pub started_names : e.names ≡ names_of m
   started_names = i.names ∙ ap names_of is
 
--- the same of what was handed back
+-- the same, of the result that was returned
 pub phase_run : (rows : Table) (task : Task) (e : EngineModel) (lines : List Line) (old new : List ℕ) (r : Result Course AllocError) → e.store ≡ store_of_view (starting_with rows task.setup)
     → e.names ≡ names_of task.setup → lines ≡ task.lines
     → IfOk r (λ p. p.present.store ≡ e.store) → IfOk r (λ p. p.present.names ≡ e.names) → IfOk r (λ p. IsDrained p.present.events) → IfOk r (λ p. Reported e lines p.present old new)
@@ -142,7 +142,7 @@ pub from_rows : (task : Task) (before : EngineModel) (rows : Table) (old new : L
 from_rows task before rows old new (Ok p) final h = (rows, final, h)
 from_rows task before rows old new (Err w) final h = tt
 
--- where nothing stands against a switch, memory is what was wanting
+-- if a switch is allowed, the only error is out of memory
 pub only_memory : (e : EngineModel) (m : SetupView) (w : SwitchError) → MaySwitch e m → IsCause e m w → w ≡ OutOfMemory
 only_memory e m (Again t) may cause = absurd (may.drained.finished t.0 cause.0)
 only_memory e m (Untold s) may cause = absurd (may.drained.told s.0 cause.1.0)
@@ -150,11 +150,11 @@ only_memory e m Tables may cause = absurd (cause.1 may.tables)
 only_memory e m Rows may cause = absurd (cause.2 may.rows)
 only_memory e m OutOfMemory may cause = refl
 
--- a course is that of its parts
+-- a course is determined by its past and its present engine
 pub course_of : (q : Course) (past : List EngineModel) (f : EngineModel) → q.past ≡ past → q.present ≡ f → IsCourse (record { past = past; present = f }) → IsCourse q
 course_of q past f p e = subst IsCourse (sym (ap₂ (λ (ps : List EngineModel) (d : EngineModel). let c : Course = record { past = ps; present = d } in c) p e))
 
--- the phases that are past, of what was handed back
+-- the past phases of the result that was returned
 pub past_of : (r : Result Course AllocError) (xs ys : List EngineModel) → IfOk r (λ p. p.past ≡ xs) → xs ≡ ys → IfOk r (λ p. p.past ≡ ys)
 past_of (Ok p) xs ys e f = e ∙ f
 past_of (Err w) xs ys e f = tt

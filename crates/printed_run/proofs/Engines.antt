@@ -1,4 +1,4 @@
--- The history of an engine is one over its setup.
+-- The history of an engine is a history over its setup.
 use Rattle.std.proofs.Common.{◌≡◌, sym, ap, ◌∙◌, length}
 use Rattle.teb_names.specs.declared.naming.NameBook.{NameBook}
 use Rattle.teb_rules.specs.Setup.{Store}

@@ -1,4 +1,4 @@
--- Histories over the store of a whole setup: what they name has a name, and so have their final rows.
+-- Histories over the store of a whole setup: everything that they and their final rows name has a name.
 use Rattle.std.proofs.Common.{◌≡◌, ℕ, List, [], length, reverse, sym, subst, subst₂, ℤ}
 use Rattle.std.specs.Prelude.{All}
 use Rattle.teb_names.specs.declared.Cell.{Cell}
@@ -35,7 +35,7 @@ module _ (m : SetupView) (X : Store) (names : NameBook) (H : List Event) (over :
   abbrev asked : List (Session × Request)
   asked = over.reached.0
 
-  -- it is the history of the setup's store
+  -- it is a history of the setup's store
   pub history_is : H ≡ history_after (store_of_view m) [] asked
   history_is = subst (λ (Y : Store). H ≡ history_after Y [] asked) over.store over.reached.1
 

@@ -1,4 +1,4 @@
--- What replies and events of a store name has a name, where the store's setup is whole and its nodes are named.
+-- Everything that replies and events of a store name has a name, if its setup is whole and its nodes are named.
 use Rattle.std.proofs.Common.{ℕ, ◌<◌, List, [], ◌∷◌, reverse, sym, subst}
 use Rattle.std.proofs.lemmas.List.{reverse-append}
 use Rattle.std.specs.Prelude.{All}
@@ -49,7 +49,7 @@ module _ (m : SetupView) (whole : IsWhole m) (named : IsNamed m) where
   event_named (event.Gone t c) h = cause_named c h
   event_named (event.Told t) h = h
 
-  -- of a history, the oldest event first
+  -- all events of a history have names, the oldest first
   pub all_named : (H : List Event) → AllWithin (store_of_view m) H → All (EventNamed (names_of m)) (reverse H)
   all_named [] h = All-nil (EventNamed (names_of m))
   all_named (e ∷ P) h = subst (All (EventNamed (names_of m))) (sym (reverse-append (e ∷ []) P))

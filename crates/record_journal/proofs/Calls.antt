@@ -1,4 +1,4 @@
--- The four calls that add a record, one after the other.
+-- The four calls that add a record.
 use Rattle.std.proofs.Common.{◌≡◌, inl, ℕ, ◌+◌, ◌≤◌, List, [], ◌∷◌, ◌++◌, length, sym, ◌∙◌, ap, subst}
 use Rattle.crash_disk.specs.Disk.{IsTorn, Holds, Follows, NoMore, Only, Elapses, LeavesOnly}
 use Rattle.record_journal.specs.Format.{Record, recovered}
@@ -29,7 +29,7 @@ module _ {D : Type 0} (seen : D → List ℕ) (may_leave : D → List ℕ → Ty
       goes_on moment left_since old one two P (may_leave two) so_far time
       (λ c now. inl (stage_crash limit rs r end bytes (seen old) added at_rest room (may_leave old) (may_leave one) only crash c (no_more c now)))
 
-  -- the second write begins with the record behind the closed gate, all of it on the disk
+  -- the second write begins with the record after the closed gate, all of it on the disk
   pub staged : (one two : D) → IsTorn (end + 1) (length bytes) (seen old) (seen one) → Holds (end + 1) bytes (seen one) → seen two ≡ seen one → IsStaged rs r (seen two)
   staged one two torn holds same = subst (IsStaged rs r) (sym same) (written_behind limit rs r end bytes (seen old) added at_rest room (seen one) torn holds)
 

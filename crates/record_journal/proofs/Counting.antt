@@ -1,10 +1,10 @@
--- Groups of writes and syncs of a disk.
+-- Groups of writes and syncs.
 use Rattle.std.proofs.Common.{◌≡◌, ℕ, ◌+◌, ◌-◌, ◌≤◌, subst, ap, arith, Result, Ok, Err}
 use Rattle.std.specs.Prelude.{IsErr, IsOk}
 use Rattle.crash_disk.specs.Calls.{Promise, Tally, AreCalls}
 use Rattle.crash_disk.proofs.Groups.{cut, then_ok, then_err, as_before}
 
--- one group more
+-- one more group
 pub more : {T E U F : Type 0} (K N k n k2 n2 : ℕ) (a b c : Tally) (v : T) (s : Result U F) → k + k2 ≡ K → n + n2 ≡ N → AreCalls {E = E} a.promise.writes k n a b (Ok v)
     → AreCalls b.promise.writes k2 n2 b c s → AreCalls a.promise.writes K N a c s
 more {U = U} {F = F} K N k n k2 n2 a b c v s is-k is-n one two =
@@ -15,7 +15,7 @@ more {U = U} {F = F} K N k n k2 n2 a b c v s is-k is-n one two =
     go (Ok w) t = then_ok a.promise.writes k n k2 n2 a b c v w one t
     go (Err e) t = then_err a.promise.writes k n k2 n2 a b c v e one t
 
--- the last group stopped
+-- the last group failed
 pub stop : {T E U F : Type 0} (K N k n : ℕ) (a b : Tally) (r : Result T E) (s : Result U F) → k ≤ K → n ≤ N → AreCalls a.promise.writes k n a b r → IsErr r → IsErr s
     → AreCalls a.promise.writes K N a b s
 stop {U = U} {F = F} K N k n a b r s le-k le-n one failed this =
@@ -27,7 +27,7 @@ stop {U = U} {F = F} K N k n a b r s le-k le-n one failed this =
     go (Ok w) e = absurd (cc)
     go (Err f) e = cut a.promise.writes k n (K - k) (N - n) a b r f one failed
 
--- the calls were made of a disk whose tally was the same
+-- the calls began with an equal tally
 pub calls_since : {T E : Type 0} (k n : ℕ) (a b c : Tally) (r : Result T E) → b ≡ a → AreCalls b.promise.writes k n b c r → AreCalls a.promise.writes k n a c r
 calls_since k n a b c r is calls = subst (λ (t : Tally). AreCalls t.promise.writes k n t c r) is calls
 

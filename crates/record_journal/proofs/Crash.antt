@@ -1,4 +1,4 @@
--- What a crash leaves in each of the two steps of an added record.
+-- What a crash leaves in each of the two writes that add a record.
 use Rattle.std.proofs.Common.{◌≡◌, ℕ, ◌+◌, ◌≤◌, List, [], ◌∷◌, ◌++◌, length, get_or, take, drop, sym, ◌∙◌, ap, subst, arith, append_assoc, length-append}
 use Rattle.std.proofs.lemmas.List.{take_at, drop_at, drop_more}
 use Rattle.crash_disk.specs.Disk.{IsTorn, Holds, Follows, Only}
@@ -7,7 +7,7 @@ use Rattle.record_journal.specs.Journal.{IsAtRest, IsBody, IsBeforeOrAfter}
 use Rattle.record_journal.proofs.Torn.{torn_front, torn_back, holds_middle, two_parts, three_parts}
 use Rattle.record_journal.proofs.Spelled.{length-body, recovered_closed, recovered_gate, records-push, length-records-push, all_push}
 
--- the file with a record behind the closed gate
+-- a file with a record after the closed gate
 pub record IsStaged (rs : List Record) (r : Record) (bytes : List ℕ) : Type 0 where
   pub rest : List ℕ
   pub is : bytes ≡ records rs ++ 0 ∷ (body r ++ 0 ∷ rest)
@@ -34,7 +34,7 @@ module _ (limit : ℕ) (rs : List Record) (r : Record) (end : ℕ) (bytes old : 
   pub before : recovered limit old ≡ Whole rs
   before = ap (recovered limit) at_rest.is ∙ recovered_closed limit rs 0 at_rest.rest at_rest.fit (omega (arith, at_rest.within, at_rest.size)) (omega arith)
 
-  -- the closed gate stands in each image of the first write
+  -- every image of the first write has the closed gate, so it has the old records
   pub torn_behind : (c : List ℕ) → IsTorn (end + 1) (length bytes) old c → recovered limit c ≡ Whole rs
   torn_behind c torn =
       let is : c ≡ front ++ drop (end + 1) c = two_parts (end + 1) c front (torn_front (end + 1) (length bytes) old c torn length-old ∙ old_front) in
@@ -78,7 +78,7 @@ module _ (limit : ℕ) (rs : List Record) (r : Record) (end : ℕ) (bytes old : 
         ∙ ap (λ (l : List ℕ). records rs ++ l)
         (drop_more c end 0 (omega (arith, length-staged, torn.no_shorter)) ∙ ap (λ (l : List ℕ). get_or c end 0 ∷ l) (torn_back end 1 staged c torn length-staged ∙ staged_back))
 
-    -- the record stands whole in each image of the second write
+    -- every image of the second write has the whole record, before or after its gate is opened
     pub torn_gate : (c : List ℕ) → IsTorn end 1 staged c → IsBeforeOrAfter limit rs r c
     torn_gate c torn =
         subst (IsBeforeOrAfter limit rs r) (sym (gate_parts c torn))

@@ -43,7 +43,7 @@ first_found least commits asked rs file rows start stands found count after =
 pub few_records : (file bytes : List ℕ) (n : ℕ) → bytes ≡ take default_capacity file → 5 * n ≤ length bytes → n < 2 ^ 32
 few_records file bytes n is few = omega (arith, few, ap length is, length-take default_capacity file)
 
--- the same error under another type of values
+-- the same error, in a result of another type
 pub retag : {A B : Type 0} (e : RecoverError) (at : ℕ) → IsErrOf {T = A} (Err e) (errors.Damaged at) → IsErrOf {T = B} (Err e) (errors.Damaged at)
 retag {A} {B} e at is =
     let same : e ≡ errors.Damaged at = cc is in

@@ -1,4 +1,4 @@
--- Calls that write nothing, one after the other, and what they read.
+-- A sequence of calls that write nothing, and what they read.
 use Rattle.std.proofs.Common.{◌≡◌, ℕ, zero, suc, ◌+◌, ◌≤◌, min, List, [], ◌∷◌, ◌++◌, length, take, drop, refl, sym, ◌∙◌, ap, arith, length-append}
 use Rattle.std.proofs.lemmas.List.{take_at, length-take, take_min, take-append-le, length-take-le}
 use Rattle.crash_disk.specs.Disk.{NoMore, Elapses, IsQuiet, IsRead}
@@ -29,7 +29,7 @@ take_more_of (x ∷ xs) (suc m) n =
     let is : suc m + n ≡ suc (m + n) = omega arith in
     ap (λ (k : ℕ). take k (x ∷ xs)) is ∙ ap (λ (l : List ℕ). x ∷ l) (take_more_of xs m n)
 
--- the bytes so far, and those that a read added behind them
+-- the bytes so far, and those that a read added after them
 pub filled_more : (file bytes next piece : List ℕ) (filled n : ℕ) → take filled bytes ≡ take filled file → filled ≤ length bytes → next ≡ take filled bytes ++ piece → n ≤ length piece
     → take n piece ≡ take n (drop filled file)
     → take (filled + n) next ≡ take (filled + n) file

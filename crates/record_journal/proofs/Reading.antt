@@ -8,7 +8,7 @@ use Rattle.record_journal.specs.Format.{Record, change_of, follow, changes_of, r
 use Rattle.record_journal.specs.Views.{record_lists}
 use Rattle.record_journal.proofs.Spelled.{push_all, pushed, skips, reading_open, reading_closed}
 
--- what was read before, and what is still read
+-- what was read before, and what remains to be read
 abbrev pub prefixed : Record → Option Record → Option Record
 prefixed front None = None
 prefixed front (Some r) = Some (front ++ r)

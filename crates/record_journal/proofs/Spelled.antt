@@ -1,4 +1,4 @@
--- What is spelled is read again.
+-- What was written is read back.
 use Rattle.std.proofs.Common.{◌≡◌, ◌≢◌, inl, inr, ℕ, zero, suc, ◌+◌, ◌-◌, ◌*◌, ◌<◌, ◌≤◌, ◌^◌, ltb, List, [], ◌∷◌, ◌++◌, length, take, Option, Some, None, ℤ, pos, negsuc, refl, sym, ◌∙◌, ap, arith, append_assoc, length-append}
 use Rattle.std.specs.Prelude.{IfSome, FitsSigned}
 use Rattle.std.specs.List.{AllByRecursion}
@@ -59,7 +59,7 @@ record_again r rest fits =
 
 -- ---- a journal
 
--- the reading past the bytes of a record
+-- the reading skips the bytes of a record
 pub skips : (n at : ℕ) (bytes rest : List ℕ) → n ≡ length bytes → reading n at (bytes ++ rest) ≡ reading 0 (at + n) rest
 unfolding reading
 skips zero at [] rest is = ap (λ (k : ℕ). reading 0 k rest) (omega arith)
@@ -79,7 +79,7 @@ pub reading_open : (at : ℕ) (bytes : List ℕ) (r : Record) → record_of byte
 unfolding reading
 reading_open at bytes r is = ap (λ (o : Option Record). after_gate at o (λ n. reading n (suc at) bytes)) is
 
--- records, and then whatever the rest stands for
+-- records, and then whatever the rest is read as
 pub reading_records : (rs : List Record) (at : ℕ) (rest : List ℕ) → AllByRecursion RecordFits rs → reading 0 at (records rs ++ rest) ≡ push_all rs (reading 0 (at + length (records rs)) rest)
 reading_records [] at rest fit = ap (λ (k : ℕ). reading 0 k rest) (omega arith)
 reading_records (r ∷ rs) at rest fit =
@@ -97,7 +97,7 @@ take_past [] ys m n is = let same : m ≡ n = omega arith in ap (λ (k : ℕ). t
 take_past (x ∷ xs) ys zero n is = absurd (omega arith)
 take_past (x ∷ xs) ys (suc m) n is = ap (λ (l : List ℕ). x ∷ l) (take_past xs ys m n (omega arith))
 
--- a closed gate ends them, whatever stands behind it
+-- a closed gate ends the records, whatever follows it
 pub recovered_closed : (limit : ℕ) (rs : List Record) (gate : ℕ) (rest : List ℕ) → AllByRecursion RecordFits rs → length (records rs) < limit → gate ≢ 1
     → recovered limit (records rs ++ gate ∷ rest) ≡ Whole rs
 unfolding recovered
@@ -123,7 +123,7 @@ pub all_push : {X : Type 0} (P : X → Type 0) (xs : List X) (x : X) → AllByRe
 all_push P [] x all one = (one, tt)
 all_push P (y ∷ xs) x all one = (all.0, all_push P xs x all.1 one)
 
--- a whole record behind any gate counts or it does not
+-- a whole record after any gate byte counts or does not count
 pub recovered_gate : (limit : ℕ) (rs : List Record) (r : Record) (gate : ℕ) (rest : List ℕ) → AllByRecursion RecordFits rs → RecordFits r → length (records rs) + size r + 2 ≤ limit
     → IsBeforeOrAfter limit rs r (records rs ++ gate ∷ (body r ++ 0 ∷ rest))
 recovered_gate limit rs r gate rest fit fits room = elim (cases_eq gate 1) [

@@ -1,4 +1,4 @@
--- The rows that records leave, one change after the other.
+-- The rows that records leave, change by change.
 use Rattle.std.proofs.Common.{◌≡◌, ℕ, ◌+◌, ◌<◌, Bool, true, cond, List, [], ◌∷◌, ◌++◌, length, get_or, take, Option, Some, ℤ, Vec, Ordering, refl, sym, ◌∙◌, ap, arith}
 use Rattle.std.specs.BTreeMap.{is_at}
 use Rattle.std.specs.Map.{lookup, keys_of}

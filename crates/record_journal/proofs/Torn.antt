@@ -1,4 +1,4 @@
--- What a write that is cut short leaves, as lists.
+-- What a torn write leaves, in terms of lists.
 use Rattle.std.proofs.Common.{◌≡◌, inl, inr, ℕ, ◌+◌, ◌-◌, ◌<◌, ◌≤◌, List, ◌++◌, length, get_or, take, drop, sym, ◌∙◌, ap, arith, length-drop, take-append-drop, append_assoc}
 use Rattle.std.proofs.lemmas.List.{ext_get_or, get_or-take, get_or-drop, length-take, drop-drop}
 use Rattle.crash_disk.specs.Disk.{IsTorn, Holds}

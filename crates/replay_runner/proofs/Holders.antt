@@ -1,4 +1,4 @@
--- The sessions that hold a transaction, from one session on.
+-- The sessions that hold a transaction, starting from a given session.
 use Rattle.std.proofs.Common.{ℕ, zero, suc, ◌≡◌, ◌+◌, ◌-◌, ◌<◌, ◌≤◌, Bool, true, false, cond, is_some, Option, Some, None, List, [], ◌∷◌, ◌++◌, map, filter, refl, ap, arith}
 use Rattle.std.specs.List.{range_with_len}
 use Rattle.teb_names.specs.declared.TheConstants.{SESSIONS}

@@ -1,4 +1,4 @@
--- Logs of lists of requests, one after another.
+-- Logs of lists of requests, in sequence.
 use Rattle.std.proofs.Common.{◌≡◌, ℕ, ◌+◌, ◌<◌, List, [], ◌∷◌, ◌++◌, length, map, drop, get_or, append_assoc, refl, sym, ap, ap₂, ◌∙◌, subst}
 use Rattle.std.proofs.lemmas.List.{append-nil, drop_more}
 use Rattle.teb_names.specs.declared.naming.NameBook.{NameBook}
@@ -39,19 +39,19 @@ history_none X H = refl
 pub history_append : (X : Store) (H : List Event) (xs ys : Requests) → history_after X H (xs ++ ys) ≡ history_after X (history_after X H xs) ys
 history_append = history_after-append
 
--- some answers are told, and with those that are left they are all
+-- some answers are told, and together with the rest they are all
 pub record HasFront (Tells : List Answered → Type 0) (rest all : List Answered) : Type 0 where
   pub answers : List Answered
   pub told : Tells answers
   pub joined : answers ++ rest ≡ all
 
--- some requests are asked, and then those behind them
+-- some requests are asked, and then those after them
 module _ (asked behind all : Requests) (is : all ≡ asked ++ behind) (X Y : Store) (H K : List Event) (same : Y ≡ X) (on : K ≡ history_after X H asked) where
   pub part_after : after Y K behind ≡ after X H all
   part_after = ap₂ (λ (Z : Store) (J : List Event). after Z J behind) same on ∙ sym (history_is X (history_after X H asked) behind)
       ∙ sym (history_append X H asked behind) ∙ history_is X H (asked ++ behind) ∙ ap (λ (w : Requests). after X H w) (sym is)
 
-  -- their answers are told behind the others
+  -- their answers are told after the others
   pub part_told : (Tells Then : NameBook → List Answered → Type 0) (m n : NameBook) (answers : List Answered) → m ≡ n
       → ((told : List Answered) → Tells m told → Then m (told ++ log_of X H asked))
       → HasFront (Tells n) (log_of X H all) answers → HasFront (Then n) (log_of Y K behind) answers
@@ -65,7 +65,7 @@ module _ (asked behind all : Requests) (is : all ≡ asked ++ behind) (X Y : Sto
             ∙ ap (λ (w : Requests). front.answers ++ log_of X H w) (sym is) ∙ front.joined;
       }
 
--- one of some requests is asked, and then those behind it
+-- one of some requests is asked, and then those after it
 module _ {A : Type 0} (f : A → Session × Request) (xs : List A) (i : ℕ) (d : A) (within : i < length xs) (s : Session) (q : Request) (is : (s, q) ≡ f (get_or xs i d)) (X Y : Store) (H K : List Event)
     (same : Y ≡ X) (on : K ≡ (answer X H s q).1) where
   left : map f (drop i xs) ≡ (s, q) ∷ map f (drop (i + 1) xs)
@@ -77,17 +77,17 @@ module _ {A : Type 0} (f : A → Session × Request) (xs : List A) (i : ℕ) (d 
   pub one_after : after Y K (map f (drop (i + 1) xs)) ≡ after X H (map f (drop i xs))
   one_after = part_after ((s, q) ∷ []) (map f (drop (i + 1) xs)) (map f (drop i xs)) left X Y H K same one_on
 
-  -- its answer is told behind the others
+  -- its answer is told after the others
   pub one_told : (Tells Then : NameBook → List Answered → Type 0) (m n : NameBook) (all : List Answered) → m ≡ n
       → ((told : List Answered) → Tells m told → Then m (told ++ record { session = s; reply = (answer X H s q).0 } ∷ []))
       → HasFront (Tells n) (log_of X H (map f (drop i xs))) all → HasFront (Then n) (log_of Y K (map f (drop (i + 1) xs))) all
   one_told = part_told ((s, q) ∷ []) (map f (drop (i + 1) xs)) (map f (drop i xs)) left X Y H K same one_on
 
--- none is left
+-- no request is left
 pub all_told : (Tells : List Answered → Type 0) (X : Store) (H : List Event) (rs : Requests) (all : List Answered) → rs ≡ [] → HasFront Tells (log_of X H rs) all → Tells all
 all_told Tells X H rs all e f = subst Tells (sym (append-nil f.answers) ∙ ap (λ (w : Requests). f.answers ++ log_of X H w) (sym e) ∙ f.joined) f.told
 
--- the log of a script, and behind it that of the Ends
+-- the log of a script, followed by that of the Ends
 pub replay_log : (X Y : Store) (H G : List Event) (lines : List Line) (old mid new : List Answered) → Y ≡ X → G ≡ history_after X H (requests_of lines)
     → mid ≡ old ++ log_of X H (requests_of lines) → new ≡ mid ++ log_of Y G (ends_of G) → new ≡ old ++ log_of X H (replayed X H lines)
 replay_log X Y H G lines old mid new s e m n =

@@ -17,7 +17,7 @@ use Rattle.replay_runner.proofs.Logged.{history_append, history_step, history_no
 abbrev AreWithin : Store → List Answered → Type 0
 AreWithin X log = All (λ (a : Answered). ReplyWithin X a.reply) log
 
--- what is reached by one request more
+-- the history after one more request
 reached_step : (X : Store) (before : Requests) (r : Session × Request) → (answer X (reached X before) r.0 r.1).1 ≡ reached X (before ++ r ∷ [])
 reached_step X before r = sym (history_append X [] before (r ∷ []) ∙ history_step X (reached X before) r [] ∙ history_none X (answer X (reached X before) r.0 r.1).1)
 

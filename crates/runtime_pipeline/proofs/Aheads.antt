@@ -1,4 +1,4 @@
--- Who is ahead of whom after one more event.
+-- Which transactions are ahead of which after one more event.
 use Rattle.std.proofs.Common.{◌≡◌, ℕ, suc, ◌<◌, ◌≤◌, Bool, true, false, cond, not, ◌||◌, ◌&&◌, eqb, List, [], ◌∷◌, map, filter, length, refl, sym, ◌∙◌, ap, subst, arith, inl, inr, lt-ltb, le-ltb}
 use Rattle.std.proofs.lemmas.Bool.{cases_Bool, both_ways, and_parts, eqb-true, eq-eqb, ne_eqb}
 use Rattle.teb_names.specs.declared.Txn.{Txn}
@@ -19,7 +19,7 @@ use Rattle.access_conflicts.specs.Blockers.{in_the_way}
 use Rattle.access_conflicts.proofs.Blockers.{blocks_holds, blocks_held}
 use Rattle.runtime_pipeline.specs.Predecessors.{numbered, is_ahead, before_in, unfinished_in, joined, without}
 
--- the transactions of numbers that ascend
+-- ascending numbers give ascending transactions
 made_above : (n : ℕ) (us : List ℕ) → AllAbove number n us → AllAbove number_of n (map numbered us)
 made_above n [] h = tt
 made_above n (u ∷ us) h = (h.0, made_above n us h.1)
@@ -31,12 +31,12 @@ made_ascend (u ∷ us) h = (made_above u us h.0, made_ascend us h.1)
 pub before_ascends : (S : Setup) (H : List Event) (n t : ℕ) → IsAscendingBy number_of (before_in S H n t)
 before_ascends S H n t = made_ascend (filter (is_ahead S H n t) (txns H)) (ascending-filter number (is_ahead S H n t) (txns H) (txns_ascending H))
 
--- tests that agree on a list
+-- tests that agree on a list select the same from it
 filter_agree : (p q : ℕ → Bool) (us : List ℕ) → ((u : ℕ) → In u us → q u ≡ p u) → filter q us ≡ filter p us
 filter_agree p q [] f = refl
 filter_agree p q (u ∷ us) f = λ j. cond (f u (inl refl) j) (u ∷ filter_agree p q us (λ v i. f v (inr i)) j) (filter_agree p q us (λ v i. f v (inr i)) j)
 
--- one more that passes
+-- putting a lower-numbered transaction adds it at the front
 put_front : (v : ℕ) (us : List ℕ) → AllAbove number v us → put_by number_of (numbered v) (map numbered us) ≡ numbered v ∷ map numbered us
 put_front v [] h = refl
 put_front v (u ∷ us) h = rw (le-ltb u v (let l : v < u = h.0 in omega arith), ne_eqb u v (λ e. let l : v < u = h.0 in omega arith)) refl
@@ -72,7 +72,7 @@ among_in u (v ∷ us) i = elim i [
   | inr j ↦ ap (λ (b : Bool). eqb v u || b) (among_in u us j) ∙ or_true (eqb v u)
 ]
 
--- the holders that are in the way of t's access, with those of a list that t was behind before
+-- the holders that block t's access, joined with a list of t's earlier predecessors
 module _ (S : Setup) (H : List Event) (n t : ℕ) (x : Cell) (write : Bool) where
   with_it : (a b c d : Bool) → (b ≡ true → d ≡ true) → ((a || b) || (c && d)) ≡ (a || ((b || c) && d))
   with_it true b c d h = refl
@@ -127,11 +127,11 @@ module _ (S : Setup) (H : List Event) (n t : ℕ) (x : Cell) (write : Bool) wher
       ∙ ap (map numbered) (filter_agree (λ u. q u || blocks S H n t x write u) (λ u. q u || (among u (txns H) && blocks S H n t x write u)) (txns H)
       (λ u i. ap (λ (b : Bool). q u || (b && blocks S H n t x write u)) (among_in u (txns H) i)))
 
--- each that is ahead is unfinished
+-- each transaction that is ahead is unfinished
 pub ahead_unfinished : (S : Setup) (H : List Event) (n t u : ℕ) → is_ahead S H n t u ≡ true → unfinished H u ≡ true
 ahead_unfinished S H n t u h = (and_parts _ _ (and_parts _ _ h).0).0
 
--- no more pass a test than one that it implies
+-- a test that implies another is passed by at most as many
 fewer : (p q : ℕ → Bool) → ((u : ℕ) → p u ≡ true → q u ≡ true) → (us : List ℕ) → length (filter p us) ≤ length (filter q us)
 fewer p q f [] = omega arith
 fewer p q f (u ∷ us) = go (p u) refl (q u) refl (fewer p q f us)
@@ -157,7 +157,7 @@ few_holders S H n x =
     let b = length_made numbered (filter (unfinished H) (txns H)) in
     omega arith
 
--- those that pass but t
+-- filtering out t is removing t from the list
 pub filter_without : (t : ℕ) (p q : ℕ → Bool) → ((u : ℕ) → q u ≡ (p u && not (eqb u t))) → (us : List ℕ) → map numbered (filter q us) ≡ without t (map numbered (filter p us))
 filter_without t p q f [] = refl
 filter_without t p q f (u ∷ us) = ap (λ (b : Bool). map numbered (cond b (u ∷ filter q us) (filter q us))) (f u) ∙ go (p u) (eqb u t) refl (filter_without t p q f us)

@@ -75,7 +75,7 @@ noted_none S n k l = record {
     none true = refl
     none false = refl
 
--- an event that changes neither who has begun, nor who is unfinished, nor who meets
+-- an event that changes neither the number of begun transactions, nor which are unfinished, nor which meet
 module _ (S : Setup) (P : List Event) (n : ℕ) (e : Event) (count : begun_count (e ∷ P) ≡ begun_count P) (open_ : (u : ℕ) → unfinished (e ∷ P) u ≡ unfinished P u)
     (meet : (t u : ℕ) → meets S (e ∷ P) n t u ≡ meets S P n t u) where
   same_unfinished : unfinished_in (e ∷ P) ≡ unfinished_in P
@@ -135,7 +135,7 @@ pub noted_told : (S : Setup) (P : List Event) (n : ℕ) (t : Txn) (k : Kept) →
 unfolding begun_count meets on side spot_of earlier
 noted_told S P n t k was = noted_inert S P n (Told t) refl (λ u. unfinished_same (Told t) P u refl refl refl) (λ v u. refl) k (none_ends (Told t) P (λ u. refl) (λ u. refl) was.ends) (λ u v. refl) was
 
--- accesses
+-- Got and Put
 got_ahead : (a m ea w : Bool) → ((a && m && ea) || (a && m && (w || false))) ≡ (a && m && (w || ea))
 got_ahead false m ea w = refl
 got_ahead true false ea w = refl
@@ -185,7 +185,7 @@ module _ (S : Setup) (P : List Event) (n : ℕ) (t : Txn) (x : Cell) where
       ∙ sym (λ j. unended u j && meets S P n t.0 u && ((eq-eqb t.0 t.0 refl j && (wrote P u x || got P u x)) || earlier P u t.0)))
       k k' (none_ends e P (λ u. refl) (λ u. refl) was.ends) open_ same lists was
 
--- whoever is unfinished is among the unfinished ones
+-- an unfinished transaction is in the list of the unfinished ones
 has_made : (v : Txn) (p : ℕ → Bool) (us : List ℕ) → p v.0 ≡ true → In v.0 us → has v (map numbered (filter p us)) ≡ true
 has_made v p [] h i = absurd i
 has_made v p (u ∷ us) h i = elim i [
@@ -201,7 +201,7 @@ unfinished_has : (S : Setup) (P : List Event) (t : Txn) → IsOrderly S P → un
 unfolding txns
 unfinished_has S P t o h = let m = o.numbered t.0 (unfinished_begun P t.0 h) in has_made t (unfinished P) (numbers (begun_count P)) h (In-numbers (begun_count P) t.0 m.0 m.1)
 
--- the end of t
+-- t ends
 module _ (S : Setup) (P : List Event) (n : ℕ) (e : Event) (t : Txn) (count : begun_count (e ∷ P) ≡ begun_count P) (ended : (u : ℕ) → unfinished (e ∷ P) u ≡ (unfinished P u && not (eqb u t.0)))
     (meet : (v u : ℕ) → meets S (e ∷ P) n v u ≡ meets S P n v u) (early : (u v : ℕ) → earlier (e ∷ P) u v ≡ earlier P u v) where
   left_unfinished : unfinished_in (e ∷ P) ≡ without t.0 (unfinished_in P)
@@ -293,7 +293,7 @@ module _ (S : Setup) (P : List Event) (n : ℕ) (t : Txn) (o : IsOrderly S P) (o
       ended u false h = unfinished_same (Gone t c) P u refl refl h
           ∙ sym (ap (λ (b : Bool). unfinished P u && not b) (ne_eqb u t.0 (λ q. both_ways _ h (eq-eqb t.0 u (sym q)))) ∙ and_true (unfinished P u))
 
--- whoever has accessed nothing is earlier than nobody, and nobody is earlier
+-- a transaction without accesses is not earlier than any other, and none is earlier than it
 earlier_none : (P : List Event) (t u : ℕ) → ((x : Cell) → wrote P t x ≡ false) → ((x : Cell) → got P t x ≡ false) → earlier P t u ≡ false
 unfolding earlier
 earlier_none [] t u w g = refl
@@ -325,7 +325,7 @@ none_earlier (Done s ∷ P) u t w g = none_earlier P u t (wrote_before (Done s) 
 none_earlier (Gone s c ∷ P) u t w g = none_earlier P u t (wrote_before (Gone s c) P t w) (got_before (Gone s c) P t g)
 none_earlier (Told s ∷ P) u t w g = none_earlier P u t (wrote_before (Told s) P t w) (got_before (Told s) P t g)
 
--- one more number, which passes, and one that does not
+-- the list with one more number: one that passes, and one that does not
 last_in : (p q : ℕ → Bool) (m : ℕ) → p m ≡ true → (us : List ℕ) → ((u : ℕ) → In u us → p u ≡ q u) → map numbered (filter p (us ++ m ∷ [])) ≡ map numbered (filter q us) ++ numbered m ∷ []
 last_in p q m h [] f = ap (λ (b : Bool). map numbered (cond b (m ∷ []) [])) h
 last_in p q m h (u ∷ us) f = ap (λ (b : Bool). map numbered (cond b (u ∷ filter p (us ++ m ∷ [])) (filter p (us ++ m ∷ [])))) (f u (inl refl)) ∙ go (q u) (last_in p q m h us (λ v i. f v (inr i)))

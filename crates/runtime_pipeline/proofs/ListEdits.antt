@@ -1,4 +1,4 @@
--- What edits make of the lists that are kept by transaction.
+-- The effect of edits on the lists that are kept by transaction.
 use Rattle.std.proofs.Common.{◌≡◌, ℕ, suc, ◌+◌, ◌<◌, ◌≤◌, Bool, true, false, cond, not, ◌||◌, eqb, List, [], ◌∷◌, length, drop, get_or, refl, sym, ◌∙◌, ap, subst, arith, IsFalse}
 use Rattle.std.proofs.lemmas.Bool.{both_ways, eqb-true, eq-eqb, ne_eqb}
 use Rattle.std.proofs.lemmas.List.Filters.{length-filter_both}
@@ -17,7 +17,7 @@ use Rattle.dependency_book.specs.Dependencies.{has}
 use Rattle.dependency_book.proofs.MultimapEdits.{one_txn}
 use Rattle.runtime_pipeline.specs.Predecessors.{joined, without}
 
--- an edit of the list of t
+-- only the list of t is edited
 module _ (f : Txn → List Txn) (g : List Txn → List Txn) (t v : Txn) where
   pub edited : (xs : List Txn) → xs ≡ g (f t) → cond (is_eq (txn_cmp t v)) xs (f v) ≡ cond (eqb t.0 v.0) (g (f v)) (f v)
   edited xs e = ap (λ (b : Bool). cond b xs (f v)) (sym (eqb-is_eq t.0 v.0)) ∙ go (eqb t.0 v.0) refl
@@ -34,7 +34,7 @@ without_twice t (u ∷ us) = go (eqb u.0 t) refl (without_twice t us)
     go true e ih = ih
     go false e ih = ap (λ (b : Bool). cond (not b) (u ∷ without t (without t us)) (without t (without t us))) e ∙ ap (λ (l : List Txn). u ∷ l) ih
 
--- a list that has t is longer than without t
+-- removing t from a list that has it makes the list shorter
 pub without_less : (t : Txn) (us : List Txn) → has t us ≡ true → length (without t.0 us) < length us
 without_less t [] h = absurd (cc)
 without_less t (u ∷ us) h = go (eqb u.0 t.0) refl (without_less t us)
@@ -43,7 +43,7 @@ without_less t (u ∷ us) h = go (eqb u.0 t.0) refl (without_less t us)
     go true e ih = let l = length-filter_both (λ (u : Txn). not (eqb u.0 t.0)) (λ (u : Txn). not (not (eqb u.0 t.0))) (λ u. refl) us in omega arith
     go false e ih = let l = ih (sym (ap (λ (b : Bool). b || has t us) e) ∙ h) in omega arith
 
--- those behind somebody, once t is taken out of the lists and out of them
+-- only the transactions in `behind` have lists; t is removed from the lists and from `behind`
 module _ (t : Txn) (behind : List Txn) (lists : Txn → List Txn) (all : (v : Txn) → IsFalse (has v behind) → lists v ≡ []) where
   pub taken_out : (v : Txn) → cond (has v behind) (without t.0 (lists v)) (lists v) ≡ without t.0 (lists v)
   taken_out v = go (has v behind) refl
@@ -61,20 +61,20 @@ module _ (t : Txn) (behind : List Txn) (lists : Txn → List Txn) (all : (v : Tx
           (all v (sym (any-filter_same (λ (u : Txn). eqb u.0 v.0) (λ u. not (eqb u.0 t.0)) true (λ u q. ap not (ne_eqb u.0 t.0 (λ e. both_ways _ h (eq-eqb t.0 v.0 (sym e ∙ eqb-true u.0 v.0 q)))))
           behind) ∙ ap (has v) (sym is) ∙ n))
 
--- t is still to be taken out of the lists of some, which then leaves the lists a
+-- t remains to be removed from the lists of `rest`; the result is the same as removing it from those of `us`, starting at a
 pub record IsTaking (t : ℕ) (us rest : List Txn) (a b : Shown Txn Txn) : Type 0 where
   pub values : (v : Txn) → cond (has v rest) (without t (values_in txn_cmp b v)) (values_in txn_cmp b v) ≡ cond (has v us) (without t (values_in txn_cmp a v)) (values_in txn_cmp a v)
   pub ascending : (v : Txn) → IsAscendingBy number_of (values_in txn_cmp b v)
   pub spare : b.spare ≡ a.spare
 
--- some holders are still to be put into the list of t, which leaves the lists a; whether any has been put so far
+-- the holders `rest` remain to be put into t's list, which gives the same as putting `hs` at a; `some` tells whether one was put
 pub record IsPutting (p : Hold → Bool) (t : Txn) (hs rest : List Hold) (i : ℕ) (some : Bool) (a b : Shown Txn Txn) : Type 0 where
   pub values : (v : Txn) → cond (eqb t.0 v.0) (joined p rest (values_in txn_cmp b v)) (values_in txn_cmp b v) ≡ cond (eqb t.0 v.0) (joined p hs (values_in txn_cmp a v)) (values_in txn_cmp a v)
   pub ascending : IsAscendingBy number_of (values_in txn_cmp b t)
   pub none : IsFalse some → (v : Txn) → values_in txn_cmp b v ≡ values_in txn_cmp a v
   pub spare : a.spare ≤ b.spare + i
 
--- the list of one more
+-- t is removed from one more list
 module _ (t : ℕ) (us : List Txn) where
   one_more : (o r : Bool) (xs : List Txn) → cond r (without t (cond o (without t xs) xs)) (cond o (without t xs) xs) ≡ cond (o || r) (without t xs) xs
   one_more true true xs = without_twice t xs
@@ -99,7 +99,7 @@ module _ (t : ℕ) (us : List Txn) where
         spare = spare ∙ was.spare;
       }
 
--- one more holder
+-- one more holder is put into the list, or passed over
 module _ (p : Hold → Bool) (t : Txn) (hs : List Hold) where
   one_put : (rest : List Hold) (o : Bool) (xs ys : List Txn) → cond o (joined p rest (cond o ys xs)) (cond o ys xs) ≡ cond o (joined p rest ys) xs
   one_put rest true xs ys = refl

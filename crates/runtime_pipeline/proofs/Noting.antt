@@ -1,4 +1,4 @@
--- Cursors after one more event, and what a pipeline control then stands for.
+-- The cursors after one more event, and what a pipeline control then represents.
 use Rattle.std.proofs.Common.{◌≡◌, ◌⊎◌, ℕ, ℤ, suc, ◌<◌, ◌≤◌, Bool, true, false, cond, ◌||◌, ◌&&◌, eqb, List, [], ◌∷◌, ◌++◌, length, drop, get_or, Option, Some, None, unwrap_or, refl, sym, ◌∙◌, ap, subst, arith, inl, inr, IsTrue}
 use Rattle.std.proofs.lemmas.Bool.{both_ways}
 use Rattle.std.proofs.lemmas.List.{get_or_default}
@@ -34,7 +34,7 @@ or_off : (a b : Bool) → (a || b) ≡ false → (a ≡ false) × (b ≡ false)
 or_off false b h = (refl, h)
 or_off true b h = absurd (cc)
 
--- whoever has accessed nothing stands at the first step
+-- a transaction without accesses after an event had none before it
 pub wrote_before : (e : Event) (P : List Event) (t : ℕ) → ((x : Cell) → wrote (e ∷ P) t x ≡ false) → (x : Cell) → wrote P t x ≡ false
 unfolding wrote put_at
 wrote_before e P t f x = (or_off (is_put t x e) (wrote P t x) (ap (λ (b : Bool). is_put t x e || b) (came_any (is_put t x) P) ∙ sym (came_any (is_put t x) (e ∷ P)) ∙ f x)).1
@@ -72,15 +72,15 @@ cursor_new S (Done u ∷ P) t w g = cursor_new S P t (wrote_before (Done u) P t 
 cursor_new S (Gone u c ∷ P) t w g = cursor_new S P t (wrote_before (Gone u c) P t w) (got_before (Gone u c) P t g)
 cursor_new S (Told u ∷ P) t w g = cursor_new S P t (wrote_before (Told u) P t w) (got_before (Told u) P t g)
 
--- the type that is kept is the type with which it began
+-- the stored type is the type with which the transaction began
 pub kind_is : (H : List Event) (u : ℕ) (k : Kind) → IsTrue (begun H u) → Some k ≡ cond (begun H u) (Some (spot_of H u).kind) None → k ≡ (spot_of H u).kind
 kind_is H u k b e = let z : Some k ≡ Some (spot_of H u).kind = e ∙ ap (λ (b : Bool). cond b (Some (spot_of H u).kind) None) b in cc
 
--- and there is one
+-- a begun transaction has a stored type
 pub kind_there : (H : List Event) (u : ℕ) → IsTrue (begun H u) → cond (begun H u) (Some (spot_of H u).kind) None ≡ Some (spot_of H u).kind
 kind_there H u b = ap (λ (b : Bool). cond b (Some (spot_of H u).kind) None) b
 
--- its profile
+-- the stored profile is the profile of the type
 pub profile_is : (S : Setup) (k i : ℕ) (p : List (List ℕ)) → S.types ≤ length S.profiles → k < S.types → i ≡ k → p ≡ get_or S.profiles i p → p ≡ profile S k
 profile_is S k i p few l e h = h ∙ get_or_default S.profiles i p [] (omega arith) ∙ ap (λ (j : ℕ). get_or S.profiles j []) e
 

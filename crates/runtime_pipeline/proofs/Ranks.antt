@@ -1,4 +1,4 @@
--- The ranks over the profiles under a node are the ranks at the node.
+-- The ranks that are computed from the profiles under a node are the ranks at the node.
 use Rattle.std.proofs.Common.{◌≡◌, ℕ, zero, suc, ◌<◌, ◌≤◌, Bool, false, not, ◌||◌, ◌&&◌, List, [], ◌∷◌, length, filter, map, get_or, refl, sym, ◌∙◌, ap, subst, arith, inl, inr}
 use Rattle.std.specs.List.{list_any, All}
 use Rattle.std.proofs.lemmas.Bool.{cases_lt, ne_eqb}
@@ -16,7 +16,7 @@ use Rattle.static_steps.specs.Profiles.{profiles_of}
 use Rattle.cc_tree.specs.Grown.{kind_numbers}
 use Rattle.runtime_pipeline.specs.Standing.{RanksOf}
 
--- a table past all that are named is reached by none, and has rank 0
+-- a table above all named ones is in no list; none reaches it, and it has rank 0
 not_among : (xs : List ℕ) (a : ℕ) → above xs ≤ a → among a xs ≡ false
 not_among [] a h = refl
 not_among (x ∷ xs) a h = rw (ne_eqb x a (λ e. omega arith)) (not_among xs a (omega arith))
@@ -49,7 +49,7 @@ unfolding longest
 no_rank ps m zero a h = refl
 no_rank ps m (suc d) a h = ap (λ (xs : List ℕ). greatest (map (λ b. suc (longest ps m d b)) xs)) (no_ahead ps m a h)
 
--- no profile names more than all do
+-- the bound of one profile is at most the bound of all profiles
 profile_below : (ps : List (List (List ℕ))) (k : ℕ) → above_steps (get_or ps k []) ≤ above_profiles ps
 profile_below [] k = omega arith
 profile_below (p ∷ ps) zero = omega arith
@@ -59,7 +59,7 @@ pub some_below : (ps : List (List (List ℕ))) (kinds : List Kind) → above_pro
 some_below ps [] = omega arith
 some_below ps (k ∷ kinds) = let z = profile_below ps k.0 in let y = some_below ps kinds in omega arith
 
--- the profiles of the types by their numbers
+-- the profiles of the types, by number
 by_numbers : (S : Setup) (kinds : List Kind) → profiles_of S.profiles kinds ≡ map (profile S) (kind_numbers kinds)
 by_numbers S [] = refl
 by_numbers S (k ∷ kinds) = ap (λ (ps : List (List (List ℕ))). profile S k.0 ∷ ps) (by_numbers S kinds)
@@ -68,7 +68,7 @@ pub under_profiles : (S : Setup) (n : ℕ) (kinds : List Kind) → kind_numbers 
 unfolding profiles_under
 under_profiles S n kinds e = by_numbers S kinds ∙ ap (map (profile S)) e
 
--- each of them has a profile
+-- each type of the list has a profile
 all_from : (m : ℕ) (kinds : List Kind) → ((k : ℕ) → In k (kind_numbers kinds) → k < m) → (i : ℕ) (d : Kind) → i < length kinds → (get_or kinds i d).0 < m
 all_from m [] f i d l = absurd (omega arith)
 all_from m (k ∷ kinds) f zero d l = f k.0 (inl refl)

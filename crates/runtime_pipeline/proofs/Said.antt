@@ -1,4 +1,4 @@
--- What a pipeline node says, found among those that are ahead and among the holders of a cell.
+-- The answers of a pipeline node, found among the transactions that are ahead and the holders of a cell.
 use Rattle.std.proofs.Common.{◌≡◌, ℕ, zero, suc, ◌<◌, ◌≤◌, Bool, true, false, cond, not, ◌||◌, ◌&&◌, ltb, List, [], ◌∷◌, length, map, filter, find, get_or, Option, Some, None, refl, sym, ◌∙◌, ap, arith, IsTrue}
 use Rattle.std.proofs.lemmas.Bool.{and_parts}
 use Rattle.teb_names.specs.declared.Txn.{Txn}
@@ -32,7 +32,7 @@ use Rattle.runtime_pipeline.specs.Predecessors.{numbered, is_ahead, before_in}
 use Rattle.runtime_pipeline.specs.Standing.{passed_some, holds_up}
 use Rattle.runtime_pipeline.proofs.Aheads.{ahead_unfinished}
 
--- the first that holds t up is found among those that are ahead of it
+-- the first transaction that holds t up is found among those that are ahead of t
 module _ (S : Setup) (H : List Event) (n t : ℕ) where
   finds_up : (p : ℕ → Bool) (us : List ℕ) → find (λ (u : Txn). p u.0) (map numbered (filter (is_ahead S H n t) us)) ≡ some_txn (find (λ u. is_ahead S H n t u && p u) us)
   finds_up p [] = refl
@@ -61,7 +61,7 @@ module _ (S : Setup) (H : List Event) (n t : ℕ) where
       go true e (suc j) ih l = ih j d (omega arith)
       go false e i ih l = ih i d l
 
--- so it has begun, with a type of the tree
+-- so each has begun, with a type of the tree
 pub ahead_typed : (f : Facts) (n t : ℕ) (us : List Txn) (i : ℕ) (d : Txn) → IsOrderly (setup_of f) (events_of f) → us ≡ before_in (setup_of f) (events_of f) n t → i < length us
     → IsTyped f (get_or us i d).0
 ahead_typed f n t us i d o e l =
@@ -71,7 +71,7 @@ ahead_typed f n t us i d o e l =
     let b = unfinished_begun (events_of f) (get_or us i d).0 open_ in
     record { begun = b; kind = o.typed (get_or us i d).0 b }
 
--- the first holder in the way that has not passed
+-- a holder that blocks the access and has not passed
 abbrev pub stops : Setup → List Event → ℕ → ℕ → Bool → ℕ → Hold → Bool
 stops S H n t write k h = in_the_way S H n t write h && not (passed S H n h.txn.0 k)
 
@@ -119,14 +119,14 @@ module _ (S : Setup) (H : List Event) (n : ℕ) (is : (row S.tree n).control ≡
   unfolding on_access
   said t x write = rw is refl
 
-  -- an access that enters no step of a greater rank
+  -- an access that does not enter a step of greater rank
   pub access_stays : (t : ℕ) (x : Cell) (write : Bool) → ltb (rank_of_step S n (kind_of H t) (cursor S H t)) (rank_of_table S n x.table.0) ≡ false
       → wait_for_txn (some_txn (find (λ u. blocks S H n t x write u && not (passed S H n u (rank_of_table S n x.table.0))) (txns H))) ≡ on_access (row S.tree n).control S H n t x write
   access_stays t x write e = waits _
       ∙ sym (said t x write ∙ ap (λ (o : Option ℕ). or_else (wait_for o) (wait_for (find (λ u. blocks S H n t x write u && not (passed S H n u (rank_of_table S n x.table.0))) (txns H))))
       (enters_none t x e))
 
-  -- one that does: where nobody holds it up, and where somebody does
+  -- an access that enters one: if no transaction holds it up, and if one does
   pub access_enters : (t : ℕ) (x : Cell) (write : Bool) → ltb (rank_of_step S n (kind_of H t) (cursor S H t)) (rank_of_table S n x.table.0) ≡ true
       → None ≡ some_txn (find (holds_up S H n t (Some (rank_of_table S n x.table.0))) (txns H))
       → wait_for_txn (some_txn (find (λ u. blocks S H n t x write u && not (passed S H n u (rank_of_table S n x.table.0))) (txns H))) ≡ on_access (row S.tree n).control S H n t x write
@@ -150,6 +150,6 @@ module _ (S : Setup) (H : List Event) (n : ℕ) (is : (row S.tree n).control ≡
           ap Wait same ∙ sym (said t x write
           ∙ ap (λ (o : Option ℕ). or_else (wait_for o) (wait_for (find (λ u. blocks S H n t x write u && not (passed S H n u (rank_of_table S n x.table.0))) (txns H)))) q)
 
--- whoever has begun has a cursor
+-- every begun transaction has a cursor
 pub has_cursor : (cs : List ℕ) (S : Setup) (H : List Event) (u : ℕ) → IsOrderly S H → CursorsOf cs S H → IsTrue (begun H u) → (0 < u) × (u ≤ length cs)
 has_cursor cs S H u o h b = let m = o.numbered u b in (m.0, omega (arith, m.1, length-cursors cs S H h))

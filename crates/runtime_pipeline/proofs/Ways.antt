@@ -1,4 +1,4 @@
--- The types that stand under a node, found row by row.
+-- The types under a node, found row by row.
 use Rattle.std.proofs.Common.{◌≡◌, ℕ, zero, suc, ◌+◌, Bool, true, false, cond, ◌||◌, eqb, List, [], ◌∷◌, ◌++◌, filter, Option, Some, None, refl, sym, ◌∙◌, ap, arith, append-nil}
 use Rattle.std.specs.List.{list_any}
 use Rattle.teb_names.specs.declared.Kind.{Kind}
@@ -11,7 +11,7 @@ or_assoc : (a b c : Bool) → (a || (b || c)) ≡ ((a || b) || c)
 or_assoc true b c = refl
 or_assoc false b c = refl
 
--- the nodes on the way up, and those that are given
+-- among the nodes of a climb with a given list are those of the climb and those of the list
 climb_lower : (T : List NodeRow) (m d n : ℕ) (l : List ℕ) → among m (climb T d n l) ≡ (among m (climb T d n []) || among m l)
 unfolding climb
 climb_lower T m zero n l = or_assoc (eqb n m) false (among m l)
@@ -23,7 +23,7 @@ climb_lower T m (suc d) n l = go (row T n).parent (λ p. climb_lower T m d p)
     go (Some p) ih = ih p (n ∷ l) ∙ or_assoc (among m (climb T d p [])) (eqb n m) (among m l)
         ∙ ap (λ (b : Bool). b || among m l) (ap (λ (b : Bool). among m (climb T d p []) || b) (sym (or_false (eqb n m))) ∙ sym (ih p (n ∷ [])))
 
--- one step up from a node that is not m
+-- a climb that starts at a node other than m and has no levels left
 pub climb_stops : (T : List NodeRow) (m d n : ℕ) → eqb n m ≡ false → d ≡ 0 → among m (climb T d n []) ≡ false
 unfolding climb
 climb_stops T m zero n e z = ap (λ (b : Bool). b || false) e
@@ -51,7 +51,7 @@ climb_up T m (suc d) c n p e r z =
     ap (λ (o : Option ℕ). among m (elim o as (λ z. List ℕ) [ None ↦ n ∷ [] | Some p ↦ climb T d p (n ∷ []) ])) r
     ∙ climb_lower T m d p (n ∷ []) ∙ ap (λ (b : Bool). among m (climb T d p []) || (b || false)) e ∙ or_false (among m (climb T d p [])) ∙ ap (λ (k : ℕ). among m (climb T k p [])) same
 
--- one more number below
+-- a test of one more number
 any_append : (p : ℕ → Bool) (xs ys : List ℕ) → list_any p (xs ++ ys) ≡ (list_any p xs || list_any p ys)
 any_append p [] ys = refl
 any_append p (x ∷ xs) ys = ap (λ (b : Bool). p x || b) (any_append p xs ys) ∙ or_assoc (p x) (list_any p xs) (list_any p ys)
@@ -84,7 +84,7 @@ pub has_among : (kinds : List Kind) (k : ℕ) → list_any (λ (j : Kind). eqb j
 has_among [] k = refl
 has_among (j ∷ kinds) k = ap (λ (b : Bool). eqb j.0 k || b) (has_among kinds k)
 
--- one more kind, where it stands under the node
+-- one more type, which is under the node
 pub kinds_more : (p : ℕ → Bool) (n : ℕ) (kinds : List Kind) → kind_numbers kinds ≡ filter p (below n) → p n ≡ true → kind_numbers (kinds ++ record { 0 = n } ∷ []) ≡ filter p (below (n + 1))
 kinds_more p n kinds h q = map_more kinds n ∙ ap (λ (l : List ℕ). l ++ n ∷ []) h ∙ sym (filter_below p n ∙ ap (λ (b : Bool). filter p (below n) ++ cond b (n ∷ []) []) q)
   where

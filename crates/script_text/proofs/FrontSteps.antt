@@ -1,4 +1,4 @@
--- A line that has only spaces behind its first bytes.
+-- A line that has only spaces after its first bytes.
 use Rattle.std.proofs.Common.{◌≡◌, ℕ, suc, ◌+◌, ◌-◌, ◌<◌, ◌≤◌, ◌==◌, Bool, true, false, cond, not, ◌||◌, List, [], ◌∷◌, ◌++◌, map, take, drop, length, get_or, slice_index, refl, sym, ap, ◌∙◌, arith, append_assoc, take_all}
 use Rattle.std.specs.List.{filter, onto_first, position_or_len, slice_split}
 use Rattle.std.specs.Str.Lines.{strip_carriage_return}
@@ -15,7 +15,7 @@ use Rattle.script_text.specs.Words.{is_blank, is_other, words_of}
 use Rattle.script_text.proofs.Loads.{take_less, run_through, run_stops, stop_within}
 use Rattle.script_text.proofs.Places.{position_within}
 
--- a part more behind the others changes nothing in front of it
+-- an empty part at the end does not change the parts before it
 onto_more : (x : ℕ) (ps : List (List ℕ)) → 0 < length ps → onto_first x (ps ++ [] ∷ []) ≡ onto_first x ps ++ [] ∷ []
 onto_more x [] h = absurd (omega (arith, h))
 onto_more x (p ∷ ps) h = refl
@@ -44,7 +44,7 @@ is_space b h = go (b == 32) h
     go true e = refl
     go false e = absurd (cc)
 
--- nor do the spaces at the end
+-- spaces at the end change no word
 pub spaces_last : (xs ys : List ℕ) → words_of (xs ++ take (position_or_len is_other ys) ys) ≡ words_of xs
 spaces_last xs [] = ap words_of (append-nil xs)
 spaces_last xs (y ∷ ys) = go (is_other y) refl (spaces_last (xs ++ y ∷ []) ys)
@@ -66,7 +66,7 @@ no_return b h = grind (arith, nat_tests)
 strip_kept : (l : List ℕ) → (slice_index l (length l - 1) == 13) ≡ false → strip_carriage_return l ≡ l
 strip_kept l h = rw h refl
 
--- the line of d up to n, behind whose first 32 bytes stand only spaces
+-- the line of d up to n has only spaces after its first 32 bytes
 module _ (d : List ℕ) (n : ℕ) (long : 32 ≤ length d) (is : n ≡ 32 + position_or_len is_other (drop 32 d)) (within : n < length d) where
   abbrev k : ℕ
   k = position_or_len is_other (drop 32 d)
@@ -97,14 +97,14 @@ stripped l = go (slice_index l (length l - 1) == 13)
     go true = let size = length-take-le (length l - 1) l (omega arith) in (ap (λ i. take i l) (sym size), omega (arith, size))
     go false = (sym (take_all (length l) l (omega arith)), omega arith)
 
--- a short line, without the carriage return at its end, stands at the front
+-- a short line, without the carriage return at its end, is a prefix of d
 pub stripped_front : (d line : List ℕ) (n : ℕ) → n ≤ length d → line ≡ strip_carriage_return (take n d) → (line ≡ take (length line) d) × (length line ≤ n)
 stripped_front d line n room is =
     let size = length-take-le n d room in
     let less : length line ≤ n = omega (arith, ap length is, (stripped (take n d)).1, size) in
     (is ∙ (stripped (take n d)).0 ∙ ap (λ l. take (length l) (take n d)) (sym is) ∙ take_less d (length line) n less room, less)
 
--- the line feed that is the first of 32 bytes
+-- the line feed that is the first of the 32 bytes
 module _ (d : List ℕ) (mask : ℕ) (long : 32 ≤ length d) (is : mask ≡ mask_l (map is_feed (chunk 0 32 d))) (some : mask ≡ 0 → ⊥) where
   pub near_feed : count_trailing_zeros 64 mask ≡ position_or_len is_feed d
   near_feed = ap (count_trailing_zeros 64) is ∙ sym (run_stops is_feed d 0 32 long (omega arith) (omega (arith, is, some)))

@@ -11,11 +11,11 @@ use Rattle.script_text.specs.Lines.{is_feed}
 use Rattle.script_text.specs.Input.{parts_from, parts_of, is_separator}
 use Rattle.script_text.proofs.LineSteps.{first_part, last_part}
 
--- a front, and then such parts
+-- the split of a text, with `front` before its first part
 abbrev pub behind : List ℕ → Option (List ℕ × List ℕ) → Option (List ℕ × List ℕ)
 behind front o = option_map (λ p. (front ++ p.0, p.1)) o
 
--- a separator at the front of what is left
+-- if the first line is a separator, the first part is empty
 pub found_first : (xs : List ℕ) (n : ℕ) → n ≡ position_or_len is_feed xs → n < length xs → is_separator (take n xs) ≡ true → parts_of xs ≡ Some ([], drop (n + 1) xs)
 unfolding parts_from
 found_first xs n is h here = rw (first_part xs n is h, here, join_with_byte-slice_split 10 (drop (n + 1) xs))
@@ -32,7 +32,7 @@ found xs n is within here = elim (cases_eq n (length xs)) [
   | inr more ↦ found_first xs n is (omega (arith, within, more)) here
 ]
 
--- no separator there, and no more lines
+-- if the only line is not a separator, there is no split
 pub none_left : (xs : List ℕ) (n : ℕ) → n ≡ position_or_len is_feed xs → length xs ≤ n → is_separator (take n xs) ≡ false → parts_of xs ≡ None
 unfolding parts_from
 none_left xs n is h other =
@@ -55,13 +55,13 @@ with_feed xs n is h =
     let ten : get_or xs n 0 ≡ 10 = grind (arith, nat_tests) in
     take-add n 1 xs ∙ ap (λ l. take n xs ++ take 1 l) (drop_more xs n 0 h) ∙ ap (λ b. take n xs ++ b ∷ []) ten
 
--- no separator there, and more lines
+-- if the first line is not a separator and more lines follow, it belongs to the first part
 pub further : (xs : List ℕ) (n : ℕ) → n ≡ position_or_len is_feed xs → n < length xs → is_separator (take n xs) ≡ false
     → parts_of xs ≡ behind (take (n + 1) xs) (parts_of (drop (n + 1) xs))
 unfolding parts_from
 further xs n is h other = rw (first_part xs n is h, other) (behind_line (take n xs) (take (n + 1) xs) (parts_of (drop (n + 1) xs)) (with_feed xs n is h))
 
--- a turn of a loop that stands at a place: the separator, the end, the next line
+-- a turn of the loop at a place: it finds a separator, the end or the next line
 module _ (bytes rest : List ℕ) (at n : ℕ) (so_far : parts_of bytes ≡ behind (take at bytes) (parts_of (drop at bytes)))
     (left : rest ≡ drop at bytes) (line : n ≡ position_or_len is_feed rest) where
   here : parts_of bytes ≡ behind (take at bytes) (parts_of rest)

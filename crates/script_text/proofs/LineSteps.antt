@@ -12,7 +12,7 @@ use Rattle.script_text.specs.Lines.{is_feed, counted, lines_of}
 abbrev pub parts : List ℕ → List (List ℕ)
 parts xs = slice_split is_feed xs
 
--- a line that goes on to another
+-- a line that a line feed ends
 pub first_part : (xs : List ℕ) (n : ℕ) → n ≡ position_or_len is_feed xs → n < length xs → parts xs ≡ take n xs ∷ parts (drop (n + 1) xs)
 first_part xs n is h = rw (is) (slice_split_first is_feed xs 0 (omega (arith, is, h)))
 
@@ -20,7 +20,7 @@ first_part xs n is h = rw (is) (slice_split_first is_feed xs 0 (omega (arith, is
 pub last_part : (xs : List ℕ) (n : ℕ) → n ≡ position_or_len is_feed xs → length xs ≤ n → parts xs ≡ xs ∷ []
 last_part xs n is h = slice_split_none is_feed xs (All-from_get_or (λ x. is_feed x ≡ false) xs 0 (λ i below. fails_before_first is_feed xs i 0 (omega (arith, is, h, below))))
 
--- there is always a part
+-- a line that is followed by another part is counted
 counted_first : (x b : _) (ps : List (List ℕ)) → counted (x ∷ map strip_carriage_return (onto_first b ps)) ≡ x ∷ counted (map strip_carriage_return (onto_first b ps))
 counted_first x b [] = refl
 counted_first x b (p ∷ ps) = refl
@@ -59,12 +59,12 @@ counted_length [] = omega arith
 counted_length (p ∷ []) = single p
 counted_length (p ∷ q ∷ ps) = omega (arith, counted_length (q ∷ ps))
 
--- a text has at most one line more than it has feeds
+-- a text has at most one more line than line feeds
 pub lines_by_feeds : (xs : List ℕ) → length (lines_of xs) ≤ count_by is_feed xs + 1
 unfolding lines_of
 lines_by_feeds xs = omega (arith, counted_length (map strip_carriage_return (parts xs)), length-map (parts xs) strip_carriage_return, length-slice_split is_feed xs)
 
--- a text has no more lines than bytes
+-- a text has at most as many lines as bytes
 pub lines_length : (xs : List ℕ) → length (lines_of xs) ≤ length xs
 unfolding lines_of
 lines_length xs = parts_length xs
@@ -82,14 +82,14 @@ module _ (xs : List ℕ) (n : ℕ) (is : n ≡ position_or_len is_feed xs) where
   unfolding lines_of
   none_after h = rw (drop_of_length-le xs {i = n + 1} (omega (arith, h)))
 
-  -- a last line that is empty
+  -- the last line is empty
   pub lines_none : length xs ≤ n → (length (strip_carriage_return (take n xs)) == 0) ≡ true → (lines_of xs ≡ []) × (lines_of (drop (n + 1) xs) ≡ [])
   lines_none h e = (whole h ∙ rw e, none_after h)
 
   lines_last : length xs ≤ n → (length (strip_carriage_return (take n xs)) == 0) ≡ false → lines_of xs ≡ strip_carriage_return (take n xs) ∷ lines_of (drop (n + 1) xs)
   lines_last h e = whole h ∙ rw (e, none_after h)
 
-  -- a line that has a feed, or is not empty
+  -- the next line ends with a line feed, or is not empty
   pub lines_next : n ≤ length xs → (b : Bool) → (length (strip_carriage_return (take n xs)) == 0) ≡ b → ((b ≡ true) × (n ≡ length xs → ⊥)) ⊎ (b ≡ false)
       → lines_of xs ≡ strip_carriage_return (take n xs) ∷ lines_of (drop (n + 1) xs)
   lines_next within b e (inl more) = lines_first (omega (arith, within, more.1))

@@ -1,4 +1,4 @@
--- No line that asks something has more than five words.
+-- No line of a request has more than five words.
 use Rattle.std.proofs.Common.{◌≡◌, ℕ, List, [], ◌∷◌, Option, None, Some, take, refl}
 use Rattle.std.specs.Option.{ok_or}
 use Rattle.teb_names.specs.declared.naming.NameBook.{NameBook}

@@ -1,4 +1,4 @@
--- Bytes that are looked at together: a mask has a bit for each, and the lowest bit that is set is the first place that passes a test.
+-- Bytes that are tested together: a mask has one bit for each, and its lowest set bit is the first place that passes a test.
 use Rattle.std.proofs.Common.{◌≡◌, ℕ, zero, suc, ◌+◌, ◌-◌, ◌*◌, ◌/◌, ◌%◌, ◌^◌, ◌<◌, ◌≤◌, Bool, true, false, not, cond, eqb, add-one, List, [], ◌∷◌, map, length, take, drop, Fits, w8, refl, sym, ap, ap₂, ◌∙◌, arith}
 use Rattle.std.proofs.lemmas.Bool.{agree_below, agree_below_at, eq-eqb, ne_eqb}
 use Rattle.std.proofs.Math.Nat.{add-mul-mod_self_left, mul_assoc, pow-le-pow_right, zero-div, div-one, pow-suc, mul_comm, div-div-eq-div-mul}
@@ -29,7 +29,7 @@ module _ (f : ℕ → ℕ) (p : ℕ → Bool) (all : agree_below (λ x. top 7 (f
   pub masked : (v z : List ℕ) → length v ≤ 64 → Each1 (Fits w8) v → z ≡ map f v → mask_l (map (top 7) z) % 2 ^ 64 ≡ mask_l (map p v)
   masked v z short fits e = ap (λ l. mask_l l % 2 ^ 64) (ap (map (top 7)) e ∙ each_byte v fits) ∙ mask_l-mod (map p v) 64 (omega (arith, length-map v p))
 
--- a mask, from the bits of the first places and those of the others
+-- a mask is made of the bits of the first places and those of the others
 mask_parts : (bs : List Bool) (n : ℕ) → n ≤ length bs → mask_l bs ≡ mask_l (take n bs) + 2 ^ n * mask_l (drop n bs)
 mask_parts bs zero h = omega arith
 mask_parts [] (suc n) h = absurd (omega (arith, h))
@@ -43,20 +43,20 @@ mask_front bs n h =
     ap (λ m. m % 2 ^ n) (mask_parts bs n h) ∙ add-mul-mod_self_left (mask_l (take n bs)) (2 ^ n) (mask_l (drop n bs))
     ∙ mask_l-mod (take n bs) n (omega (arith, length-take-le n bs h))
 
--- the first of the first
+-- a prefix of a prefix
 pub take_less : (d : List ℕ) (n m : ℕ) → n ≤ m → m ≤ length d → take n (take m d) ≡ take n d
 take_less d n m h room =
     let e : n + (m - n) ≡ m = omega (arith, h) in
     ap (λ k. take n (take k d)) (sym e) ∙ ap (take n) (take-add n (m - n) d) ∙ take_at (take n d) (take (m - n) (drop n d)) n (length-take-le n d (omega (arith, h, room)))
 
--- the mask of a line, from that of what stands where it begins
+-- the mask of a line, from the mask of the bytes at its place
 pub line_mask : (p : ℕ → Bool) (d line : List ℕ) (m : ℕ) → m ≤ length d → length line ≤ m → line ≡ take (length line) d → mask_l (map p (take m d)) % 2 ^ length line ≡ mask_l (map p line)
 line_mask p d line m room short is =
     let n = length line in
     mask_front (map p (take m d)) n (omega (arith, length-map (take m d) p, length-take-le m d room, short))
     ∙ ap mask_l (take-map p n (take m d) ∙ ap (map p) (take_less d n m short room ∙ sym is))
 
--- a shift that keeps the bit
+-- shifting a bit by at most 32 places keeps it
 pub one_bit : (n : ℕ) → n ≤ 32 → 1 * 2 ^ n % 2 ^ 64 ≡ 2 ^ n
 one_bit n small = omega (arith, pow-le-pow_right {n = 2} (omega arith) small)
 
@@ -71,11 +71,11 @@ mask_behind (b ∷ bs) zero = div-one (mask_l (b ∷ bs))
 mask_behind (b ∷ bs) (suc i) =
     ap (λ n. mask_l (b ∷ bs) / n) (pow-suc 2 i ∙ mul_comm (2 ^ i) 2) ∙ sym (div-div-eq-div-mul (mask_l (b ∷ bs)) 2 (2 ^ i)) ∙ ap (λ n. n / 2 ^ i) (half b (mask_l bs)) ∙ mask_behind bs i
 
--- the mask of what stands behind the first i
+-- the mask of the bytes after the first i
 pub mask_after : (p : ℕ → Bool) (xs : List ℕ) (mask i : ℕ) → mask ≡ mask_l (map p xs) → mask / 2 ^ i ≡ mask_l (map p (drop i xs))
 mask_after p xs mask i is = ap (λ m. m / 2 ^ i) is ∙ mask_behind (map p xs) i ∙ ap mask_l (drop-map p i xs)
 
--- a shift, and then another
+-- shifting by i and then by j is shifting by i + j
 pub shifted : (m i j : ℕ) → m / 2 ^ i / 2 ^ j ≡ m / 2 ^ (i + j)
 shifted m i j = div-div-eq-div-mul m (2 ^ i) (2 ^ j) ∙ ap (λ k. m / k) (sym (pow-add 2 i j))
 
@@ -95,7 +95,7 @@ low_zero false k m small =
 zero_le : (k : ℕ) → 0 ≤ k
 zero_le k = omega arith
 
--- is the first place that does not pass the test, if at least one bit is above them all
+-- the lowest bit that is not set is the first place that fails the test, if at least one bit is above all bytes
 pub ones_at_front : (p : ℕ → Bool) (k : ℕ) (xs : List ℕ) → length xs < k → count_trailing_zeros k (2 ^ k - 1 - mask_l (map p xs)) ≡ prefix_len p xs
 ones_at_front p zero xs h = absurd (omega (arith, h))
 ones_at_front p (suc k) [] h = low_zero false k 0 (omega (arith, pow-le-pow_right {n = 2} (omega arith) (zero_le k)))
@@ -139,20 +139,20 @@ module _ (p : ℕ → Bool) where
       let stops : position_or_len p c ≡ length c → ⊥ = λ e. omega (arith, empty_mask c e, some) in
       omega (arith, trailing_mask_l p 64 c (omega (arith, long)) some, prefix_len-le-length (λ x. not (p x)) c, long, stops)
 
-  -- the mask of the first n, behind the first i
+  -- the mask of the first n bytes, without the first i
   module _ (d : List ℕ) (mask i n : ℕ) (room : n ≤ length d) (is : mask ≡ mask_l (map p (chunk 0 n d))) (within : i ≤ n) where
     rest_mask : mask / 2 ^ i ≡ mask_l (map p (chunk i (n - i) d))
     rest_mask =
         ap (λ m. m / 2 ^ i) is ∙ mask_behind (map p (chunk 0 n d)) i
         ∙ ap mask_l (drop-map p i (take n d) ∙ ap (map p) (ap (λ m. drop i (take m d)) (omega arith) ∙ drop-take i (n - i) d))
 
-    -- no bit is set there
+    -- no bit of the rest is set
     pub none_ahead : mask / 2 ^ i ≡ 0 → position_or_len p (drop i d) ≡ n - i + position_or_len p (drop n d)
     none_ahead none =
         let end : i + (n - i) ≡ n = omega (arith, within) in
         run_through d i (n - i) (omega (arith, room, within)) (sym rest_mask ∙ none) ∙ ap (λ k. n - i + position_or_len p (drop k d)) end
 
-  -- the lowest bit that is set there
+  -- the lowest set bit of the rest
   module _ (d : List ℕ) (mask i n : ℕ) (room : n ≤ length d) (short : n ≤ 64) (is : mask ≡ mask_l (map p (chunk 0 n d))) (within : i ≤ n) (some : mask / 2 ^ i ≡ 0 → ⊥) where
     behind : mask / 2 ^ i ≡ mask_l (map p (chunk i (n - i) d))
     behind = rest_mask d mask i n room is within
@@ -163,7 +163,7 @@ module _ (p : ℕ → Bool) where
     pub next_within : i + count_trailing_zeros 64 (mask / 2 ^ i) < n
     next_within = omega (arith, ap (count_trailing_zeros 64) behind, stop_within d i (n - i) (omega arith) (omega arith) (omega (arith, behind, some)))
 
-  -- the first place that passes, looked for from a place before it
+  -- a search from a place before the first that passes finds that one
   pub looked_for_from : (d : List ℕ) (j : ℕ) → j ≤ position_or_len p d → j + position_or_len p (drop j d) ≡ position_or_len p d
   looked_for_from d zero h = omega arith
   looked_for_from d (suc j) h =

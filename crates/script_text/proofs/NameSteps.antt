@@ -42,7 +42,7 @@ module _ (names : List (List ℕ)) where
           let there : get_or (nows (set xs n w)) i [] ≡ get_or (nows xs) i [] = moved ∙ get_or-set_other (nows xs) n i w.now [] other in
           rw (there) (known i (omega (arith, some, ap length there)))
 
-  -- a word that is one of them
+  -- a word that is one of the names
   pub found : (xs : List (Bor (List ℕ))) (i : ℕ) (d : Bor (List ℕ)) (w : List ℕ) → i < length xs → AreNumbered names (nows xs) → 0 < length w → (get_or xs i d).now ≡ w → Ok i ≡ name_at names w
   unfolding AreNumbered name_at
   found xs i d w h known some same =

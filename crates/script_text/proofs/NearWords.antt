@@ -12,7 +12,7 @@ module _ (line : List ℕ) (inside at rest : ℕ) (short : length line ≤ 32) (
   whole : inside ≡ mask_l (map is_inside (chunk 0 (length line) line))
   whole = is ∙ ap (λ l. mask_l (map is_inside l)) (sym (take_all (length line) line (omega arith)))
 
-  -- where no bit is left, no word is
+  -- if no bit is left, no word is left
   pub none_left : rest ≡ 0 → words_of (drop at line) ≡ []
   none_left none =
       words_past line at (length line) within (none_ahead is_inside line inside at (length line) (omega arith) whole within (sym ahead ∙ none)) ∙ words_end line (length line) refl

@@ -1,4 +1,4 @@
--- The lines of a script that was read are of sessions 1 to SESSIONS.
+-- The lines of a script that was read belong to sessions 1 to SESSIONS.
 use Rattle.std.proofs.Common.{◌≡◌, ℕ, ◌+◌, ◌<◌, ◌≤◌, ◌==◌, Bool, true, false, if◌then◌else◌, List, [], ◌∷◌, ◌++◌, length, suc, Option, Some, None, Result, Ok, Err, slice_index, refl, ◌∙◌, ap, subst, arith}
 use Rattle.std.specs.Prelude.{IfOk, Vec}
 use Rattle.std.specs.declared.alloc.Global.{Global}
@@ -90,7 +90,7 @@ module _ (names : NameBook) (format : ℕ) where
   few_more None more = omega arith
   few_more (Some l) more = omega arith
 
-  -- no more lines ask something than there are
+  -- a script has at most as many requests as lines
   pub script_few : (n : ℕ) (ls : List (List ℕ)) (lines : List Line) → script_from names format n ls ≡ Ok lines → length lines ≤ length ls
   unfolding script_from
   script_few n [] lines e = let z : [] ≡ lines = cc in omega (arith, ap length z)
@@ -101,7 +101,7 @@ module _ (names : NameBook) (format : ℕ) where
       let z : option_to_list a.0 ++ b.0 ≡ lines = cc in
       omega (arith, ap length z, few_more a.0 b.0, script_few (n + 1) ls b.0 b.1)
 
--- the lines that were answered
+-- the lines that are returned belong to these sessions
 pub answered_sessions : (names : NameBook) (format : ℕ) (text : List ℕ) (r : Result (Vec Line Global) ScriptError) → Answers r (script_of names format text) → IfOk r (λ v. AreOfSessions v.items)
 answered_sessions names format text (Ok v) answers = script_sessions names format 1 (lines_of text) v.items answers
 answered_sessions names format text (Err e) answers = tt

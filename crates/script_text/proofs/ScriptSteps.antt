@@ -10,7 +10,7 @@ use Rattle.script_text.specs.Grammar.{script_from, script_of, line_in, line_of, 
 use Rattle.script_text.specs.Lines.{lines_of}
 use Rattle.script_text.specs.Words.{words_of}
 
--- lines that are read already, and then those of what follows
+-- the lines that are already read, and then the result of the rest
 abbrev pub behind : List Line → Result (List Line) ScriptError → Result (List Line) ScriptError
 behind done rest = rest >>= (λ more. Ok (done ++ more))
 
@@ -18,7 +18,7 @@ behind_more : (done : List Line) (o : Option Line) (rest : Result (List Line) Sc
 behind_more done o (Ok more) = ap (λ l. Ok l) (append_assoc done (option_to_list o) more)
 behind_more done o (Err e) = refl
 
--- a line fewer is left
+-- one line fewer is left
 pub fewer : (ls more : List (List ℕ)) (ws : List (List ℕ)) → map words_of ls ≡ ws ∷ map words_of more → length ls ≡ length more + 1
 fewer ls more ws e = omega (arith, ap length e, length-map ls words_of, length-map more words_of)
 
@@ -48,6 +48,6 @@ module _ (names : NameBook) (format : ℕ) where
   unfolding script_by
   script_end done n more e = rw (e, append-nil done)
 
--- a script by the words of its lines, with another book that is the same
+-- a script by the words of its lines, with an equal book of names
 pub book_script : (names book : NameBook) (format : ℕ) (text : List ℕ) → book ≡ names → script_of names format text ≡ script_by book format 1 (map words_of (lines_of text))
 book_script names book format text same = ap (λ b. script_of b format text) (sym same) ∙ by_words book format 1 (lines_of text)

@@ -1,4 +1,4 @@
--- A list of lines for each number of a session.
+-- A list of lines for each session number.
 use Rattle.std.proofs.Common.{◌≡◌, ◌≢◌, ℕ, zero, suc, ◌+◌, ◌<◌, ◌≤◌, ◌==◌, Bool, true, false, not, cond, if◌then◌else◌, List, [], ◌∷◌, ◌++◌, length, map, filter, replicate, take, get_or, set, take, Vec, Some, option_map, slice_get, refl, sym, ap, ◌∙◌, arith, inl, inr}
 use Rattle.std.specs.declared.alloc.Global.{Global}
 use Rattle.std.specs.List.{range_with_len}
@@ -81,7 +81,7 @@ module _ (count : ℕ) where
       map_filter (λ s. not (length s.1 == 0)) (λ s. (s, list_at (all_for ls) s.0)) (map session (range_with_len 0 count))
       ∙ ap (filter (λ s. not (length s.1 == 0))) (pairs ls)
 
--- what holds of all sessions
+-- the lists of all sessions
 abbrev all_lists : List Line → List (List Line)
 all_lists ls = map (lines_for ls) session_numbers
 
@@ -103,7 +103,7 @@ pub scripts_all : (ls : List Line) (lists : List (List Line)) (sessions : List S
 unfolding session_numbers scripts_of
 scripts_all ls lists sessions these those = ap (λ ss. paired ss lists) those ∙ ap (λ b. paired (filter (has_list b) (map session (range_with_len 0 256))) b) these ∙ scripts_for 256 ls
 
--- one more number of a session
+-- one more session number
 pub sessions_more : (lists : List (List Line)) (done new : List Session) (n : ℕ) (none : Bool) → (length (list_at lists n) == 0) ≡ none
     → done ≡ filter (has_list lists) (map session (range_with_len 0 n)) → new ≡ (if none then done else done ++ session n ∷ [])
     → new ≡ filter (has_list lists) (map session (range_with_len 0 (n + 1)))
@@ -122,7 +122,7 @@ sessions_all lists n e = ap (λ n. filter (has_list lists) (map session (range_w
 pub list_read : (lists : List (Vec Line Global)) (i : ℕ) (v : Vec Line Global) → i < length lists → v ≡ get_or lists i v → list_at (lists_in lists) i ≡ v.items
 list_read lists i v h read = get_or-map (λ v. v.items) lists i v [] h ∙ ap (λ v. v.items) (sym read)
 
--- a write to one of the lists
+-- a write to one list
 pub lists_set : (lists : List (Vec Line Global)) (i : ℕ) (old new : Vec Line Global) (l : Line) → i ≡ l.session.0 → i < length lists → old ≡ get_or lists i old → new.items ≡ old.items ++ l ∷ []
     → lists_in (set lists i new) ≡ with_line (lists_in lists) l
 lists_set lists i old new l at within read put =

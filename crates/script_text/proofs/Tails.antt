@@ -1,4 +1,4 @@
--- How long the text of a number is, and the text of a number with a sign.
+-- The length of the text of a number, and the text of a signed number.
 use Rattle.std.proofs.Common.{◌≡◌, ℕ, suc, ◌^◌, ◌<◌, ◌≤◌, List, ◌∷◌, ◌++◌, ◌+◌, ◌/◌, ◌%◌, length, ℤ, pos, negsuc, true, int_lt, unsigned_abs, refl, ap, ◌∙◌, arith, length-append}
 use Rattle.std.proofs.lemmas.Bool.{leb-true}
 use Rattle.std.specs.Fmt.{decimal, signed_decimal}
@@ -20,6 +20,6 @@ pub minus_first : (n : ℤ) → int_lt n (pos 0) ≡ true → 45 ∷ decimal (un
 minus_first (pos n) h = absurd (omega (arith, leb-true (suc n) 0 h))
 minus_first (negsuc n) h = refl
 
--- what stands in front of the rest
+-- a text is as long as its front and its rest
 pub length_in_front : (w rest all : List ℕ) (n : ℕ) → all ≡ w ++ rest → length w ≤ n → length all ≤ length rest + n
 length_in_front w rest all n is short = omega (arith, short, ap length is ∙ length-append w rest)

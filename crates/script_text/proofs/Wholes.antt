@@ -1,4 +1,4 @@
--- Whole lines, and whole texts or none.
+-- Texts that are written whole or not at all.
 use Rattle.std.proofs.Common.{◌≡◌, ℕ, ◌+◌, ◌-◌, ◌<◌, ℤ, Option, Some, slice_get, drop, map, if◌then◌else◌, List, [], ◌∷◌, ◌++◌, codes, Result, Ok, Err, is_ok, take, length, refl, sym, ap, ◌∙◌, append_assoc, arith}
 use Rattle.std.specs.Result.{OnOk, OnErr}
 use Rattle.std.specs.List.{join_with_byte}
@@ -30,7 +30,7 @@ taken_back old text new out (Err e) is put = is ∙ ap (take (length old)) put.g
 pub front_front : {old mid new : List ℕ} → IsFront old mid → IsFront mid new → IsFront old new
 front_front {old = old} f g = record { more = f.more ++ g.more; grown = g.grown ∙ ap (λ l. l ++ g.more) f.grown ∙ append_assoc old f.more g.more }
 
--- a line that ends, its first word and its other words written
+-- a line is complete once its first word, its other words and its feed are written
 pub line_ends : {E : Type 0} (old one two new w : List ℕ) (ws : List (List ℕ)) (r : Result (Unit {0}) E) → one ≡ old ++ w → two ≡ one ++ spaced ws → Puts two (codes "\n") new r
     → Puts old (line_text (w ∷ ws)) new r
 line_ends old one two new w ws (Ok u) first others end =
@@ -38,16 +38,16 @@ line_ends old one two new w ws (Ok u) first others end =
 line_ends old one two new w ws (Err e) first others end =
     front_front (record { more = w; grown = first }) (front_front (record { more = spaced ws; grown = others }) end)
 
--- the words of a line and its feed, behind the first word
+-- the words of a line and its feed, after the first word
 pub whole_line : (w : List ℕ) (ws : List (List ℕ)) → w ++ (spaced ws ++ codes "\n") ≡ line_text (w ∷ ws)
 whole_line w ws = sym (append_assoc w (spaced ws) (codes "\n")) ∙ ap (λ l. l ++ codes "\n") (sym (joined w ws))
 
--- a text that is appended at once
+-- a text that is appended in one call
 pub put_at_once : {E : Type 0} (old text bytes new : List ℕ) (r : Result (Unit {0}) E) → new ≡ (if is_ok r then old ++ bytes else old) → bytes ≡ text → Puts old text new r
 put_at_once old text bytes new (Ok u) is same = is ∙ ap (λ l. old ++ l) same
 put_at_once old text bytes new (Err e) is same = record { more = []; grown = is ∙ sym (append-nil old) }
 
--- one more value in front of those that are written
+-- one more value before those that are written
 pub one_value : (vs : List (Option ℤ)) (n : ℕ) (v : Option ℤ) (rest : List ℕ) → 0 < n → slice_get vs (n - 1) ≡ Some v
     → spaced (map value_text (drop (n - 1) vs)) ++ rest ≡ codes " " ++ (value_text v ++ (spaced (map value_text (drop n vs)) ++ rest))
 one_value vs n v rest some read =

@@ -23,7 +23,7 @@ inside_cons : (x : ℕ) (xs : List ℕ) (b : Bool) → is_blank x ≡ b → with
 inside_cons x xs true h = rw h (one_more (position_or_len is_inside xs) x xs)
 inside_cons x xs false h = rw h
 
--- spaces and tabs at the front change no word
+-- blanks at the front change no word
 pub words_inside : (xs : List ℕ) → words_of (without_blanks xs) ≡ words_of xs
 words_inside [] = refl
 words_inside (x ∷ xs) = step (is_blank x) refl (words_inside xs)
@@ -32,7 +32,7 @@ words_inside (x ∷ xs) = step (is_blank x) refl (words_inside xs)
     step true h more = ap words_of (inside_cons x xs true h) ∙ more ∙ sym (words_blank x xs h)
     step false h more = ap words_of (inside_cons x xs false h)
 
--- where only blanks stand between two places, the same words follow both
+-- if only blanks are between two places, the same words follow both
 pub words_past : (line : List ℕ) (i j : ℕ) → i ≤ j → position_or_len is_inside (drop i line) ≡ j - i + position_or_len is_inside (drop j line) → words_of (drop i line) ≡ words_of (drop j line)
 words_past line i j h is =
     let n = position_or_len is_inside (drop i line) in
@@ -40,7 +40,7 @@ words_past line i j h is =
     let same : i + n ≡ j + m = omega (arith, is, h) in
     sym (words_inside (drop i line)) ∙ ap words_of (drop-drop n i line ∙ ap (λ k. drop k line) same ∙ sym (drop-drop m j line)) ∙ words_inside (drop j line)
 
--- no word stands behind the end
+-- no word follows the end of the line
 pub words_end : (line : List ℕ) (n : ℕ) → n ≡ length line → words_of (drop n line) ≡ []
 unfolding words_of
 words_end line n is = ap words_of (drop_of_length-le line {i = n} (omega (arith, is)))
@@ -48,7 +48,7 @@ words_end line n is = ap words_of (drop_of_length-le line {i = n} (omega (arith,
 blank_next : (x : ℕ) (xs : List ℕ) → is_blank x ≡ false → position_or_len is_blank (x ∷ xs) ≡ 0 → ⊥
 blank_next x xs h = rw h (λ e. omega (arith, e))
 
--- where no word is left, nothing is
+-- if no word follows the blanks, only blanks are left
 pub none_inside : (xs : List ℕ) → position_or_len is_blank (without_blanks xs) ≡ 0 → without_blanks xs ≡ []
 none_inside [] e = refl
 none_inside (x ∷ xs) e = step (is_blank x) refl (none_inside xs)
@@ -93,7 +93,7 @@ module _ (xs : List ℕ) (n : ℕ) (is : n ≡ position_or_len is_blank xs) wher
     | inr h ↦ outer h some
   ]
 
--- the word at the front of a line, and what is left behind it
+-- the first word of a line, and what is left after it
 module _ (line : List ℕ) (n : ℕ) (is : n ≡ position_or_len is_blank (without_blanks line)) where
   pub word_next : (length (take n (without_blanks line)) == 0) ≡ false → words_of line ≡ take n (without_blanks line) ∷ words_of (drop n (without_blanks line))
   word_next some = sym (words_inside line) ∙ words_first (without_blanks line) n is some
@@ -105,7 +105,7 @@ module _ (line : List ℕ) (n : ℕ) (is : n ≡ position_or_len is_blank (witho
       let gone : without_blanks line ≡ [] = none_inside line (sym is ∙ zero) in
       (sym (words_inside line) ∙ ap words_of gone, ap (λ l. words_of (drop n l)) gone ∙ rw zero)
 
--- the next word of a line, looked for from a place in it
+-- the next word of a line, searched from a place in it
 module _ (line : List ℕ) (at start stop : ℕ) (first : start ≡ at + position_or_len is_inside (drop at line)) (last : stop ≡ start + position_or_len is_blank (drop start line)) where
   pub word_from : start < length line → words_of (drop at line) ≡ take (stop - start) (drop start line) ∷ words_of (drop stop line)
   word_from h =
@@ -122,7 +122,7 @@ module _ (line : List ℕ) (at start stop : ℕ) (first : start ≡ at + positio
 abbrev Texts : Type 0
 Texts = List (Bor (List ℕ))
 
--- the first words, and those that are left
+-- the words that were taken, and those that are left
 pub words_more : (xs : Texts) (n : ℕ) (w : Bor (List ℕ)) (left rest all : List (List ℕ)) → n < length xs → nows (take n xs) ++ left ≡ all → left ≡ w.now ∷ rest
     → nows (take (n + 1) (set xs n w)) ++ rest ≡ all
 words_more xs n w left rest all h so_far next =

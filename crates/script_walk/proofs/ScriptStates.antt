@@ -1,4 +1,4 @@
--- Where a session stands, by indices of its script.
+-- The state of a session in its script, by indices.
 use Rattle.std.proofs.Common.{◌≡◌, ℕ, ◌+◌, ◌<◌, List, [], ◌∷◌, Option, Some, None, refl, sym, ◌∙◌, ap, length, drop, get_or, is_some, unwrap_or, arith}
 use Rattle.std.proofs.lemmas.List.{drop_more, drop-map}
 use Rattle.teb_names.specs.declared.Request.{Request}
@@ -6,21 +6,21 @@ use Rattle.script_text.specs.declared.Line.{Line}
 use Rattle.teb_rules.specs.Scripts.{asks, asks_at, Stays, Enters, Leaves, Returns, Goes, moved}
 use Rattle.script_walk.specs.ScriptStates.{requests_on, lines_from, state_at}
 
--- a line of a list that is not empty
+-- the line at an index within the list
 pub line_at : (lines : List Line) (i : ℕ) → i < length lines → Line
 line_at [] i h = absurd (omega arith)
 line_at (l ∷ ls) i h = l
 
--- what is left of a script at a line of it, and behind its last line
+-- what is left of a script at a line, and after its last line
 pub rest_at : (lines : List Line) (i : ℕ) (d : Line) → i < length lines → drop i (requests_on lines) ≡ (get_or lines i d).request ∷ drop (i + 1) (requests_on lines)
 rest_at lines i d h = drop-map (λ (l : Line). l.request) i lines ∙ ap requests_on (drop_more lines i d h) ∙ ap (λ (rs : List Request). (get_or lines i d).request ∷ rs)
     (sym (drop-map (λ (l : Line). l.request) (i + 1) lines))
 
--- what is asked there
+-- the request of the line is asked there
 pub asks_line : (lines : List Line) (i : ℕ) (b : Option ℕ) (d : Line) → i < length lines → asks (state_at (requests_on lines) i b) ≡ Some (get_or lines i d).request
 asks_line lines i b d h = ap (λ (rs : List Request). asks_at rs (is_some (lines_from (requests_on lines) b))) (rest_at lines i d h)
 
--- how a session goes on from a line
+-- where a session goes from a line
 pub stays : (l : List Request) (r : Request) (rs : List Request) (b : Option (List Request)) → l ≡ r ∷ rs → moved l b Stays ≡ record { rest = l; begun = b }
 stays l r rs b e = rw e refl
 

@@ -1,4 +1,4 @@
--- Tests of the numbers up to one.
+-- Tests over the numbers from 1 up to a number.
 use Rattle.std.proofs.Common.{◌≡◌, ℕ, suc, ◌+◌, Bool, true, false, ◌||◌, List, [], ◌∷◌, ◌++◌, refl, ap, subst, ◌∙◌, arith}
 use Rattle.std.specs.List.{list_any}
 use Rattle.teb_names.proofs.Bools.{or_false}
@@ -12,7 +12,7 @@ any_append p (v ∷ us) u = ap (λ (b : Bool). p v || b) (any_append p us u) ∙
     assoc true b c = refl
     assoc false b c = refl
 
--- over the numbers up to one more
+-- a test of the numbers up to k + 1 is that of the numbers up to k, or of k + 1
 pub any_next : (p : ℕ → Bool) (k : ℕ) → list_any p (numbers (k + 1)) ≡ (list_any p (numbers k) || p (k + 1))
 any_next p k = let e : suc k ≡ k + 1 = omega arith in subst (λ (m : ℕ). list_any p (numbers m) ≡ (list_any p (numbers k) || p m)) e (above k)
   where

@@ -55,7 +55,7 @@ commits_walk (Ready t ∷ P) = step (Ready t) P ∙ append_none (commits_in (rev
 commits_walk (Gone t c ∷ P) = step (Gone t c) P ∙ append_none (commits_in (reverse P)) ∙ commits_walk P
 commits_walk (Told t ∷ P) = step (Told t) P ∙ append_none (commits_in (reverse P)) ∙ commits_walk P
 
--- nobody commits twice
+-- no transaction commits twice
 commits_distinct : (S : Setup) (H : List Event) → Lawful S H → Distinct (committed_in H)
 unfolding Lawful
 commits_distinct S [] l = tt
@@ -68,7 +68,7 @@ commits_distinct S (Ready u ∷ P) l = commits_distinct S P l.1
 commits_distinct S (Gone u c ∷ P) l = commits_distinct S P l.1
 commits_distinct S (Told u ∷ P) l = commits_distinct S P l.1
 
--- how often t stands in a list
+-- 1 if u is t, else 0
 abbrev hits : ℕ → ℕ → ℕ
 hits t u = cond (eqb u t) 1 0
 
@@ -128,7 +128,7 @@ distinct_count (u ∷ us) f = (
 count_moved : (t : ℕ) (us ws : List ℕ) → IsPermutation us ws → count t ws ≡ count t us
 count_moved t us ws m = count_sum t ws ∙ sum_by-IsPermutation (hits t) us ws m ∙ sym (count_sum t us)
 
--- the order of words is that of std
+-- the lexicographic order of keys is that of std
 pub lex_is : (xs ys : List ℕ) → lex xs ys ≡ is_lt (slice_cmp nat_cmp xs ys)
 unfolding lex
 lex_is [] [] = refl
@@ -159,7 +159,7 @@ module _ (S : Setup) (a : TreeFacts S) (H : List Event) (l : Lawful S H) where
       counts : (t : ℕ) → count t us ≡ count t (committed_in H)
       counts t = count_moved t (committed_in H) us m
 
--- pairs of numbers, from the places of the entries
+-- each number of the entries is that of an entry at some index
 In_place : (u : ℕ) (es : List Entry) → In u (entry_numbers es) → (i : ℕ) × (i < length es) × ((d : Entry) → (get_or es i d).txn.0 ≡ u)
 In_place u [] i = absurd i
 In_place u (e ∷ es) i = elim i [ inl q ↦ (zero, omega arith, λ d. q) | inr j ↦ (let r = In_place u es j in (suc r.0, (let z = r.1 in omega arith), r.2)) ]
@@ -201,7 +201,7 @@ entries_ordered S a H l ns xs es numbers have m up =
     (pairs_numbers (λ u t. serially S H t u ≡ false) es
     (λ i j d. later S a H l ns es (All-permutation (λ (e : Entry). Commits H e.txn.0) xs es m done) (All-permutation (HasKey S H ns) xs es m have) up i j d))
 
--- one event more
+-- the commits in a list of events, event by event
 drop_there : (es : List Event) (i : ℕ) (e : Event) → slice_get es i ≡ Some e → drop i es ≡ e ∷ drop (i + 1) es
 drop_there [] i e h = absurd (cc)
 drop_there (d ∷ es) zero e h = let q : d ≡ e = cc in ap (λ (z : Event). z ∷ es) q ∙ ap (λ (k : ℕ). e ∷ drop k (d ∷ es)) (let z : suc 0 ≡ 0 + 1 = omega arith in z)
@@ -244,7 +244,7 @@ get_or-behind : (xs : List Entry) (b d : Entry) → get_or (xs ++ b ∷ []) (len
 get_or-behind [] b d = refl
 get_or-behind (x ∷ xs) b d = get_or-behind xs b d
 
--- an entry more, whose key stands behind the numbers so far
+-- one more entry, whose key is after the numbers so far
 module _ (S : Setup) (H : List Event) (ns ms : List ℕ) where
   key_still : (e : Entry) → HasKey S H ns e → HasKey S H (ns ++ ms) e
   key_still e h = record {

@@ -1,4 +1,4 @@
--- Keys compare as they do up to the first rank that is a Done, which no two share.
+-- Keys compare in the same way if they are cut after the first rank that is a Done, which no two transactions share.
 use Rattle.std.proofs.Common.{◌≡◌, ◌≢◌, ◌⊎◌, ℕ, ◌<◌, Bool, true, false, cond, ◌&&◌, ◌||◌, eqb, ltb, List, [], ◌∷◌, ◌++◌, length, refl, sym, ◌∙◌, ap, subst, subst₂, inl, inr, arith, append_assoc, eqb-true, ne_eqb}
 use Rattle.teb_names.specs.declared.Spot.{Spot}
 use Rattle.teb_names.specs.declared.ControlKind.{ControlKind}
@@ -19,7 +19,7 @@ use Rattle.teb_laws.proofs.Serial.{Commits}
 use Rattle.teb_laws.proofs.Timeline.{apart, kind-lt}
 use Rattle.serial_order.specs.Keys.{ranks_by_done, cut_of, cut_key}
 
--- two paths with the sides g and k at their nodes: they go on alike as long as the sides are the same
+-- two paths with the sides g and k at their nodes agree on the next node as long as their sides are the same
 abbrev pub GoAlike : (ℕ → ℕ) → (ℕ → ℕ) → List ℕ → List ℕ → Type 0
 GoAlike g k [] [] = Unit {0}
 GoAlike g k [] (y ∷ ys) = ⊥
@@ -43,7 +43,7 @@ lex_cut f g h k last differ (x ∷ xs) (y ∷ ys) w =
     go false p true q behind = ap (λ (r : Bool). ltb (f x) (h x) || (eqb (f x) (h x) && (ltb (g x) (k x) || (eqb (g x) (k x) && r)))) (behind (eqb-true (g x) (k x) q))
     go false p false q behind = rw q refl
 
--- the paths of two transactions
+-- the paths of two transactions, and their sides
 module _ (S : Setup) (a : TreeFacts S) where
   side_is : (k : Spot) (t : ℕ) (xs : List ℕ) (n : ℕ) (ls : List ℕ) → k.kind.0 < S.types → path S.tree k ≡ xs ++ n ∷ ls → side_at S.tree n k t ≡ head_or t ls
   unfolding side_at
@@ -81,7 +81,7 @@ own_done t u (Ready s) h k = absurd (cc)
 own_done t u (Gone s c) h k = absurd (cc)
 own_done t u (Told s) h k = absurd (cc)
 
--- no two commit at once
+-- no two transactions commit at the same position
 done_differs : (H : List Event) (t u : ℕ) → t ≢ u → Commits H t → done_at H t ≢ done_at H u
 unfolding done_at
 done_differs H t u ne c e = apart (is_done t) (is_done u) H (λ d h k. ne (own_done t u d h k)) c e

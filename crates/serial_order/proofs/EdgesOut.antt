@@ -1,4 +1,4 @@
--- Who has an edge at a snapshot node, and the marks of the batches with an edge out.
+-- The transactions with an edge at a snapshot node, and the marks of the batches with an edge out.
 use Rattle.std.proofs.Common.{◌≡◌, ℕ, ◌+◌, ◌<◌, Bool, true, false, eqb, ◌&&◌, ◌||◌, List, get_or, set, replicate, refl, sym, ap, subst, ◌∙◌, inl, inr, arith, length, eq-eqb, ne_eqb}
 use Rattle.std.specs.List.{list_any}
 use Rattle.std.proofs.lemmas.Bool.{cases_eq, and_parts, or_right}
@@ -27,7 +27,7 @@ unfolding has_edge_out
 leads_all S H n t = refl
 
 module _ (S : Setup) (H : List Event) (n : ℕ) (l : Lawful S H) where
-  -- of one batch are those on the path whose batches start at one place
+  -- a committed transaction on the node is of t's batch if and only if both batches start at the same position
   batch_by_start : (t a : ℕ) → began_at H t < length H → on S H n t ≡ true → committed H a ≡ true → on S H n a ≡ true → one_batch S H n t a ≡ eqb (start S H n a) (start S H n t)
   unfolding one_batch
   batch_by_start t a bt ot ca oa = rw (ot, oa) (elim (cases_eq (start S H n t) (start S H n a)) [
@@ -54,7 +54,7 @@ module _ (S : Setup) (H : List Event) (n : ℕ) (l : Lawful S H) where
       go true p false q = ap (λ (b : Bool). b && has_edge S H n a) (sym (off q))
       go true p true q = turn (has_edge S H n a) (eqb (start S H n a) (start S H n t)) ∙ ap (λ (b : Bool). b && has_edge S H n a) (sym (batch_by_start t a bt ot p q))
 
-  -- marks over all transactions say who has an edge out
+  -- marks made over all transactions say which batches have an edge out
   pub marks_say : (ms : List Bool) → AreMarked S H n (txns H) ms → (t : ℕ) → begun H t ≡ true → on S H n t ≡ true → IsMarked S H n t ms
   marks_say ms m t b o =
       let bt = begun_place H t b in
@@ -65,7 +65,7 @@ module _ (S : Setup) (H : List Event) (n : ℕ) (l : Lawful S H) where
         says = m.marked (start S H n t) low ∙ (λ j. list_any (λ a. leads_one t a bt o j) (txns H)) ∙ leads_all S H n t;
       }
 
-  -- no marks at first, and what one more transaction adds
+  -- there are no marks at first, and what one more transaction adds
   pub marks_none : (ms : List Bool) → ms ≡ replicate (length H) false → AreMarked S H n (numbers 0) ms
   marks_none ms e = record {
     one_each = ap length e ∙ length-replicate (length H) false;
@@ -94,7 +94,7 @@ module _ (S : Setup) (H : List Event) (n : ℕ) (l : Lawful S H) where
             ∙ ap (λ (b : Bool). list_any (leads_from S H n i) (numbers k) || b) (sym (ne_eqb _ _ ne))
       ]
 
-  -- who leads out is of the node, and its batch starts within the history
+  -- a transaction that leads out is committed and on the node, and its batch starts within the history
   pub leads_here : (a : ℕ) → leads_out S H n a ≡ true → (committed H a ≡ true) × (on S H n a ≡ true)
   leads_here a h = let p = and_parts _ _ h in and_parts _ _ p.0
 

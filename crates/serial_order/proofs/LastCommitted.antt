@@ -1,4 +1,4 @@
--- The last committed version of a cell is what the final table has there.
+-- The last committed version of a cell gives its value in the final table.
 use Rattle.std.proofs.Common.{ℕ, zero, suc, ◌≡◌, ◌⊎◌, ◌<◌, Bool, true, not, ◌&&◌, eqb, List, [], ◌∷◌, Option, Some, None, refl, sym, ap, subst, ◌∙◌, arith, inl, inr, length, get_or, filter, unwrap_or, ℤ, slice_get}
 use Rattle.std.proofs.lemmas.Bool.{both_ways, cases_order, and_from, and_parts, not-true, not_from_false}
 use Rattle.teb_names.proofs.Bools.{and_true}
@@ -24,7 +24,7 @@ use Rattle.candidate_reads.proofs.InOrder.{among_In, In_among, at-In, In-at, Pai
 use Rattle.candidate_reads.proofs.Shows.{version_parts}
 use Rattle.candidate_reads.proofs.Sources.{Strict, writer_began, at-writer}
 
--- of a list in version order, the last one that passes is the latest of all that pass
+-- in a list in version order, the last version that passes a test is the latest of all that pass
 latest_place : (S : Setup) (H : List Event) (x : Cell) (p : ℕ → Bool) (ws : List ℕ) → Pairs (Strict S H x) ws → ((w : ℕ) → p w ≡ true → In w ws) → ((w : ℕ) → In w ws → In w (txns H)) →
     (i : ℕ) → IsLast p ws (Some i) → latest S H x (filter p (txns H)) ≡ Some (get_or ws i 0)
 unfolding latest
@@ -49,13 +49,13 @@ pub latest_nobody : (S : Setup) (H : List Event) (x : Cell) (us : List ℕ) → 
 unfolding latest
 latest_nobody S H x us f = find_nothing _ us f
 
--- the value that stands at a place
+-- the value at an index is the last one that its writer put
 at-value : (H : List Event) (x : Cell) (vs : List Version) (i : ℕ) (v : Version) → HaveLastValues H x vs → slice_get vs i ≡ Some v → last_put H v.0.0 x ≡ Some v.1
 at-value H x [] i v l e = absurd (cc)
 at-value H x (p ∷ ps) zero v l e = subst (λ (z : Version). last_put H z.0.0 x ≡ Some z.1) (let q : p ≡ v = cc in q) l.0
 at-value H x (p ∷ ps) (suc i) v l e = at-value H x ps i v l.1 e
 
--- w is committed, and has put x
+-- w is committed and has put x
 abbrev pub is_final : List Event → Cell → ℕ → Bool
 is_final H x w = committed H w && wrote H w x
 
@@ -63,7 +63,7 @@ module _ (S : Setup) (H : List Event) (x : Cell) (L : Cell → List Version) (l 
   have : (w : ℕ) → In w (writers_of (L x)) → has_version H x w ≡ true
   have w i = sym (h.writers x w) ∙ In_among w (writers_of (L x)) i
 
-  -- no version is of 0, or of who has not begun
+  -- no version is of transaction 0, or of one that has not begun
   pub of_nobody : (t : ℕ) → (0 < t → begun_count H < t) → (p : ℕ → Bool) → own_or_last t p (writers_of (L x)) ≡ last_place p (writers_of (L x))
   of_nobody t nobody p = go (first_place (λ w. eqb w t) (writers_of (L x))) refl
     where
@@ -96,14 +96,14 @@ module _ (S : Setup) (H : List Event) (x : Cell) (L : Cell → List Version) (l 
     abbrev store : Store
     store = record { setup = S; tables = n; rows = R }
 
-    -- the value at the last committed place
+    -- the value at the last committed place is the final one
     pub final_there : (i : ℕ) (v : Version) → Some i ≡ last_place (committed H) (writers_of (L x)) → slice_get (L x) i ≡ Some v → v.1 ≡ final_table store H x
     unfolding final_table
     final_there i v e g =
         let last = latest_place S H x (is_final H x) (writers_of (L x)) (h.order x) final_in begun_in i (final_last (Some i) (is_last (committed H) (writers_of (L x)) (Some i) e)) in
         sym (ap (value_of store H x) (last ∙ ap (λ (z : ℕ). Some z) (at-writer (L x) i v g).0) ∙ ap (λ (o : Option (Option ℤ)). unwrap_or o None) (at-value H x (L x) i v (h.values x) g))
 
-    -- no committed one
+    -- if no version is committed, the starting row is the final one
     pub final_row : None ≡ last_place (committed H) (writers_of (L x)) → row_of R x ≡ final_table store H x
     unfolding final_table
     final_row e =

@@ -1,4 +1,4 @@
--- In a cell that nobody has put its starting row is left.
+-- A cell that no transaction has put keeps its starting row.
 use Rattle.std.proofs.Common.{ℕ, ◌≡◌, Bool, true, false, ◌||◌, eqb, List, [], ◌∷◌, reverse, refl, sym, ap, ◌∙◌, filter}
 use Rattle.std.specs.List.{list_any}
 use Rattle.std.specs.List.Sorted.{IsStrictlySortedBy}
@@ -34,13 +34,13 @@ not_wrote : (H : List Event) (x : Cell) (w : ℕ) → is_among x (cells_put (rev
 unfolding wrote put_at
 not_wrote H x w h = came_any (is_put w x) H ∙ sym (any_reverse (is_put w x) H) ∙ none_put x w (reverse H) h
 
--- where nobody has put the cell, the starting row stands
+-- if no transaction has put the cell, its final value is the starting row
 untouched : (X : Store) (H : List Event) (x : Cell) → ((w : ℕ) → wrote H w x ≡ false) → final_table X H x ≡ row_of X.rows x
 unfolding final_table
 untouched X H x f = ap (value_of X H x) (latest_nobody X.setup H x (filter (is_final H x) (txns H)) (λ u i.
     both_ways _ (f u) (and_parts _ _ (filter-In (is_final H x) u (txns H) i).1).1))
 
--- the cells that somebody has put are enough
+-- a sorted list that has each cell that was put is enough
 pub cells_enough : (X : Store) (H : List Event) (xs : List Cell) → IsStrictlySortedBy cell_cmp xs → ((x : Cell) → is_among x (cells_put (reverse H)) ≡ true → is_among x xs ≡ true)
     → AreCells (final_table X H) X.rows xs
 cells_enough X H xs sorted all = record {
@@ -48,7 +48,7 @@ cells_enough X H xs sorted all = record {
   all = λ x h. untouched X H x (λ w. not_wrote H x w (false_from_ne_true _ (λ put. both_ways _ h (all x put))));
 }
 
--- how many tables there are does not matter
+-- the number of tables does not matter
 pub tables_alike : (X : Store) (n : ℕ) (H : List Event) (x : Cell) → final_table X H x ≡ final_table (record X { tables = n }) H x
 unfolding final_table
 tables_alike X n H x = refl

@@ -1,4 +1,4 @@
--- Rows that ascend, with others in the place of some.
+-- Ascending rows, some of which are replaced.
 use Rattle.std.proofs.Common.{◌≡◌, Bool, true, false, cond, ◌||◌, List, [], ◌∷◌, ◌++◌, Option, Some, None, ℤ, refl, sym, ap, subst, ◌∙◌}
 use Rattle.std.specs.List.{list_all, AllByRecursion}
 use Rattle.std.specs.List.Sorted.{IsStrictlySortedBy}
@@ -17,7 +17,7 @@ use Rattle.serial_order.specs.Tables.{rows_before, rows_behind, row_before, merg
 abbrev Row : Type 0
 Row = Cell × ℤ
 
--- all rows are behind x
+-- all rows are after x
 abbrev Above : Cell → List Row → Type 0
 Above x rs = AllByRecursion (λ (r : Row). cell_cmp x r.0 ≡ Less) rs
 
@@ -29,7 +29,7 @@ abbrev Rise : List Row → Type 0
 Rise [] = Unit {0}
 Rise (r ∷ rs) = Above r.0 rs × Rise rs
 
--- what is said of ascending rows
+-- ascending rows, stated by the order of cells
 above : (x : Cell) (rs : List Row) → list_all (λ (s : Row). is_before x s.0) rs ≡ true → Above x rs
 above x [] h = tt
 above x (r ∷ rs) h = let p = and_parts _ _ h in (before_less x r.0 p.0, above x rs p.1)
@@ -58,12 +58,12 @@ above_append : (x : Cell) (fs bs : List Row) → Above x fs → Above x bs → A
 above_append x [] bs a b = b
 above_append x (r ∷ fs) bs a b = (a.0, above_append x fs bs a.1 b)
 
--- one list behind another, where whatever is before x is before the second
+-- two ascending lists in sequence ascend, if the first is before x and every cell before x is before the second
 rise_append : (x : Cell) (fs bs : List Row) → Rise fs → Rise bs → Below x fs → ((y : Cell) → cell_cmp y x ≡ Less → Above y bs) → Rise (fs ++ bs)
 rise_append x [] bs a b low high = b
 rise_append x (r ∷ fs) bs a b low high = (above_append r.0 fs bs a.0 (high r.0 low.0), rise_append x fs bs a.1 b low.1 high)
 
--- the rows before and behind a cell
+-- the rows before and after a cell
 greater_less : (x y : Cell) → cell_cmp x y ≡ Greater → cell_cmp y x ≡ Less
 greater_less x y h = cell_cmp_total.antisymm y x ∙ ap ordering_reverse h
 
@@ -119,7 +119,7 @@ behind_above x (r ∷ rs) h = elim (cell_cmp r.0 x) as (λ o. cell_cmp r.0 x ≡
   | Greater ↦ λ e. (greater_less r.0 x e, above_further x r.0 rs (greater_less r.0 x e) h.0)
 ] refl
 
--- what row a cell has
+-- the first value, or else the second
 or_else : Option ℤ → Option ℤ → Option ℤ
 or_else None o = o
 or_else (Some v) o = Some v
@@ -143,7 +143,7 @@ row_of_append (r ∷ fs) bs y = elim (same_cell r.0 y) as (λ b. cond b (Some r.
   | false ↦ row_of_append fs bs y
 ]
 
--- another cell than x has its row before x or behind
+-- the row of a cell other than x is before x or after it
 row_split : (x y : Cell) (rs : List Row) → same_cell x y ≡ false → row_of rs y ≡ or_else (row_of (rows_before x rs) y) (row_of (rows_behind x rs) y)
 unfolding or_else
 row_split x y [] n = refl
@@ -230,7 +230,7 @@ module _ (left : Cell → Option ℤ) where
           ∙ this (left x) refl t (m ∙ ap (λ (o : Option ℤ). cond (is_among y xs) (left y) o) behind)
       go false f m = ap (or_else (row_of (rows_before x rs) y)) (that (left x) f ∙ m) ∙ others (is_among y xs) refl f
 
-  -- the merged rows tell what is left, where each other cell has its starting row
+  -- the merged rows give what is left, if each cell that is not listed has its starting row
   pub merged_left : (rs : List Row) (xs : List Cell) (y : Cell) → IsAscending rs → IsStrictlySortedBy cell_cmp xs → (is_among y xs ≡ false → left y ≡ row_of rs y)
       → row_of (merged_rows left rs xs) y ≡ left y
   merged_left rs xs y h s others = merged_value rs xs y (rise rs h) s ∙ go (is_among y xs) refl

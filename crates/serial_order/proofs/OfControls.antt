@@ -1,4 +1,4 @@
--- The control of a node is of the node's kind, and keeps its batches.
+-- The control of a node is of the node's kind and keeps its batches.
 use Rattle.std.proofs.Common.{◌≡◌, ℕ, ◌∙◌, List, refl, sym, ap, subst, subst₂}
 use Rattle.teb_names.specs.declared.ControlKind.{ControlKind}
 use Rattle.teb_names.specs.declared.ControlKind.TheVariants.{Locks as IsLocks, Pipeline as IsPipeline, Timestamp as IsTimestamp, Snapshot as IsSnapshot}
@@ -46,7 +46,7 @@ module _ (S : Setup) (H : List Event) where
     pub snapshot_batches : (k : SnapshotControl) → c ≡ Snapshot k → BatchesOf k.register.batches S H n
     snapshot_batches k e = subst (λ (m : ℕ). BatchesOf k.register.batches S H m) (snapshot_there k e) (snapshot_stands k e).register.batches
 
-    -- a node whose control is no snapshot control is no snapshot node
+    -- if the control of a node is not a snapshot control, the node is not a snapshot node
     pub no_snapshot : ((k : SnapshotControl) → c ≡ Snapshot k → ⊥) → (row S.tree n).control ≡ IsSnapshot → ⊥
     no_snapshot other q = other_kind c other (sym kind_there ∙ q)
       where

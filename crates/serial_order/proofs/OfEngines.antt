@@ -1,4 +1,4 @@
--- The laws of every run, of engines.
+-- The laws of every run, stated of engines.
 use Rattle.std.proofs.Common.{◌≡◌, ◌≢◌, ℕ, ◌<◌, true, List, [], sym, subst, arith, length}
 use Rattle.teb_names.specs.declared.Txn.{Txn}
 use Rattle.teb_history.specs.Phases.{began_at, committed}
@@ -34,7 +34,7 @@ module _ (e : EngineModel) (h : IsOfEngine e) (ts : List Txn) (o : txn_numbers t
   began : (u : ℕ) → committed e.events u ≡ true → began_at e.events u < length e.events
   began u c = let d = commits_from e.events u c in let z = commits e.store.setup e.events u lawful d in omega arith
 
-  -- whose rank is the lesser one where the two meet
+  -- a transaction of smaller rank where the two meet is earlier in the order
   before : (u w : ℕ) → committed e.events u ≡ true → committed e.events w ≡ true → u ≢ w
       → ((n : ℕ) → meets e.store.setup e.events n u w ≡ true → rank e.store.setup e.events n u < rank e.store.setup e.events n w) → StandsBefore (txn_numbers ts) u w
   before u w cu cw ne f =

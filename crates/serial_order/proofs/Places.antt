@@ -1,4 +1,4 @@
--- The nodes of a path by their places.
+-- The nodes of a path, by index.
 use Rattle.std.proofs.Common.{◌≡◌, ℕ, zero, suc, ◌<◌, true, false, eqb, List, [], ◌∷◌, length, get_or, Option, Some, refl, sym, ap, subst, ◌∙◌, arith, eq-eqb}
 use Rattle.std.proofs.lemmas.Bool.{or_left, or_right}
 use Rattle.teb_history.specs.declared.Event.{Event}
@@ -20,7 +20,7 @@ among-at [] i d h = absurd (omega arith)
 among-at (n ∷ ns) zero d h = or_left (eqb n n) (among n ns) (eq-eqb n n refl)
 among-at (n ∷ ns) (suc i) d h = or_right (eqb n (get_or ns i d)) (among (get_or ns i d) ns) (among-at ns i d (omega arith))
 
--- the rank at a snapshot node
+-- the rank at a snapshot node is the start or the close of the batch
 pub snapshot_start : (S : Setup) (H : List Event) (n t : ℕ) → (row S.tree n).control ≡ Snapshot → has_edge_out S H n t ≡ true → start S H n t ≡ rank S H n t
 unfolding rank rank_by
 snapshot_start S H n t c e = rw (c, e) refl
@@ -38,7 +38,7 @@ numbers-at [] i m = refl
 numbers-at (n ∷ ns) zero m = refl
 numbers-at (n ∷ ns) (suc i) m = numbers-at ns i m
 
--- a node at a place of a path is on it
+-- a node at an index of a path is on it
 pub on_at : (S : Setup) (H : List Event) (t : ℕ) (ns : List Node) (i : ℕ) (m : Node) → node_numbers ns ≡ path S.tree (spot_of H t) → i < length ns → on S H (get_or ns i m).0 t ≡ true
 unfolding on on_path
 on_at S H t ns i m e low =
@@ -52,7 +52,7 @@ key_starts S H t ms e = ap (key_along S H t) e
 pub spot_told : (H : List Event) (t : ℕ) (o : Option Spot) (s : Spot) → IfSome o (λ z. z ≡ spot_of H t) → o ≡ Some s → s ≡ spot_of H t
 spot_told H t o s h e = subst (λ (p : Option Spot). IfSome p (λ z. z ≡ spot_of H t)) e h
 
--- whether a node is on its path, and its side there, by the spot
+-- whether a node is on its path, and its side there, by its spot
 pub on_told : (S : Setup) (H : List Event) (n t : ℕ) (s : Spot) → s ≡ spot_of H t → on S H n t ≡ true → on_path S.tree n s ≡ true
 unfolding on
 on_told S H n t s e h = ap (on_path S.tree n) e ∙ h

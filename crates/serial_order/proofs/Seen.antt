@@ -19,7 +19,7 @@ use Rattle.teb_names.proofs.CellOrder.{cell_cmp_total, same_cell-cell_cmp}
 use Rattle.serial_order.specs.declared.seen_cells.SeenCells.{SeenCells}
 use Rattle.serial_order.specs.Seen.{is_among, place_of, cell_at, marked_cells, is_marked, IsSound, AreSeen}
 
--- the cell of its own place
+-- the cell at the place of x is x
 pub cell_of_place : (w : ℕ) (x : Cell) → x.key < w → cell_at w (place_of w x) ≡ x
 cell_of_place w x h = path (div-mul-add x.table.0 w x.key h) (mod-mul-add x.table.0 w x.key h)
   where
@@ -78,7 +78,7 @@ module _ (w : ℕ) (wide : 0 < w) where
         behind true h = or_right _ _ h
         behind false h = h
 
--- each cell that is marked is one of those at the places below the end
+-- each marked cell is one of those at the places below the end
 pub marked_there : (s : SeenCells) (x : Cell) → IsSound s → is_marked s x ≡ true → is_among x (marked_cells s.width s.marks.items 0 s.end) ≡ true
 marked_there s x ok h =
     let p = and_parts _ _ h in
@@ -89,7 +89,7 @@ marked_there s x ok h =
       | inr le ↦ absurd (both_ways _ (ok.behind (place_of s.width x) le) p.1)
     ]
 
--- one place more
+-- one more place
 pub more_marked : (w : ℕ) (ms : List Bool) (i e : ℕ) → i < e → get_or ms i false ≡ true → marked_cells w ms i (e - i) ≡ cell_at w i ∷ marked_cells w ms (i + 1) (e - (i + 1))
 more_marked w ms i e h m =
     let k : e - i ≡ suc (e - (i + 1)) = omega arith in
@@ -106,7 +106,7 @@ more_unmarked w ms i e h m =
     ∙ ap (λ (b : Bool). cond b (cell_at w i ∷ marked_cells w ms (suc i) (e - (i + 1))) (marked_cells w ms (suc i) (e - (i + 1)))) m
     ∙ ap (λ (n : ℕ). marked_cells w ms n (e - (i + 1))) j
 
--- each cell once is as good
+-- removing duplicates keeps the same cells
 or_twice : (a b : Bool) → (a || b) ≡ (a || (a || b))
 or_twice true b = refl
 or_twice false b = refl
@@ -128,7 +128,7 @@ either_way : {P : Type 0} (a b : Bool) → (a || b) ≡ true → (a ≡ true →
 either_way true b h f g = f refl
 either_way false b h f g = g h
 
--- the marked cells alone, where there are no others
+-- the marked cells alone, if there are no others
 pub only_marked : (s : SeenCells) (xs : List Cell) → IsSound s → s.others.items ≡ [] → xs ≡ marked_cells s.width s.marks.items 0 s.end → AreSeen s xs
 only_marked s xs ok none e = record {
   ascending = subst (IsStrictlySortedBy cell_cmp) (sym e) (marked_ascend s.width ok.wide s.marks.items 0 s.end);
@@ -137,7 +137,7 @@ only_marked s xs ok none e = record {
       (λ o. absurd (both_ways (is_among x s.others.items) (ap (is_among x) none) o));
 }
 
--- the marked cells and the others, sorted, and each once
+-- the marked cells and the others, sorted, without duplicates
 pub all_sorted : (s : SeenCells) (ms ps qs : List Cell) → IsSound s → ms ≡ marked_cells s.width s.marks.items 0 s.end → IsPermutation s.others.items ps → IsPermutation (ms ++ ps) qs
     → IsSorted cell_cmp qs
     → AreSeen s (dedup same_cell qs)

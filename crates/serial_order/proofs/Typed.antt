@@ -1,4 +1,4 @@
--- Who is committed is typed.
+-- Committed transactions are typed.
 use Rattle.std.proofs.Common.{◌≡◌, ℕ, ◌<◌, true, arith, length}
 use Rattle.teb_history.specs.Phases.{began_at, committed}
 use Rattle.teb_laws.specs.Lawful.{Lawful}

@@ -27,7 +27,7 @@ module _ (S : Setup) (H : List Event) (i : ℕ) (e : Event) (l : Lawful S H) (lo
   pub granted_there : Granted S (upto i H) e
   granted_there = granted_at S H i e l event_next
 
-  -- the Done of t stands at its position
+  -- the Done of t is at its position
   pub done_here : (t : Txn) → e ≡ Done t → (i ≡ done_at H t.0) × (unfinished (upto i H) t.0 ≡ true)
   unfolding done_at
   done_here t q =
@@ -39,7 +39,7 @@ module _ (S : Setup) (H : List Event) (i : ℕ) (e : Event) (l : Lawful S H) (lo
       is_done_own : (t : Txn) → is_done t.0 (Done t) ≡ true
       is_done_own t = eq-eqb t.0 t.0 refl
 
--- who is done here is typed
+-- the transaction of a Done is typed
 pub typed_there : (f : Facts) (i : ℕ) (t : Txn) → Lawful (setup_of f) (events_of f) → i < length (events_of f) → slice_get (reverse (events_of f)) i ≡ Some (Done t) → IsTyped f t.0
 typed_there f i t l low there =
     let S = setup_of f in

@@ -17,7 +17,7 @@ use Rattle.teb_laws.specs.Within.{CellWithin, AllWithin}
 use Rattle.teb_names.proofs.SameCells.{same_cell-true}
 use Rattle.serial_order.specs.Tables.{IsFinalRows}
 
--- where all rows are of the first tables, so is each cell that has a row
+-- if all rows are of the first tables, so is each cell that has a row
 pub row_within : (tables : ℕ) (rows : List (Cell × ℤ)) (x : Cell) (v : ℤ) → All (λ (r : Cell × ℤ). r.0.table.0 < tables) rows → row_of rows x ≡ Some v → x.table.0 < tables
 row_within tables [] x v within e = absurd (cc)
 row_within tables (r ∷ rs) x v within e = here (row_within tables rs x v (λ k d low. within (suc k) d (omega (arith, low)))) (same_cell r.0 x) refl e
@@ -58,7 +58,7 @@ module _ (X : Store) where
   unfolding final_table
   final_within H x v h start e = value_within H x _ v h start e
 
-  -- where the starting rows are of the store's tables and all events are
+  -- if all starting rows and events are of the store's tables, so are the final rows
   pub rows_within : (H : List Event) (rows : List (Cell × ℤ)) → ((x : Cell) (v : ℤ) → row_of X.rows x ≡ Some v → CellWithin X x)
       → AllWithin X H → IsFinalRows X H rows → All (λ (r : Cell × ℤ). CellWithin X r.0) rows
   rows_within H rows start h f k d low =

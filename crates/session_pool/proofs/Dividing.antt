@@ -1,4 +1,4 @@
--- Sessions that are divided into those that wait and those that have nothing to do.
+-- The division of the sessions into those that wait and those that have nothing to do.
 use Rattle.std.proofs.Common.{◌≡◌, ℕ, suc, ◌+◌, ◌-◌, ◌≤◌, true, false, List, [], ◌∷◌, ◌++◌, All, map, sym, ap, ◌∙◌, subst, arith}
 use Rattle.std.specs.Option.{is_some}
 use Rattle.std.proofs.lemmas.List.{map-append}
@@ -20,7 +20,7 @@ use Rattle.session_pool.proofs.Sums.{total_append}
 use Rattle.session_pool.proofs.Scripting.{one_more, one_waits, one_idles}
 
 module _ {C : Type 0} {g : Ghosts C} (h : Hall C g) (scripts : Scripted) where
-  -- n passes are left
+  -- n passes are still to be divided
   pub record IsDivided (n : ℕ) (ps : List (Pass C g)) (ws : List (Waiting C g)) (ts : List (Task C g)) : Type 0 where
     pub few : n ≤ SESSIONS
     pub sessions : map number_of ps ≡ numbers n
@@ -42,7 +42,7 @@ module _ {C : Type 0} {g : Ghosts C} (h : Hall C g) (scripts : Scripted) where
     all = λ weight. ap (λ (us : List (Task C g)). total weight (map number_in us) + 0) t;
   }
 
-  -- the last pass that is left
+  -- the last of the passes that are left
   its_last : (n k : ℕ) (ps qs : List (Pass C g)) (p : Pass C g) (ws : List (Waiting C g)) (ts : List (Task C g)) → IsDivided n ps ws ts → ps ≡ qs ++ p ∷ [] → n ≡ suc k → LastOf h qs p k
   its_last n k ps qs p ws ts d is e = last_of h ps qs p n k is e d.sessions d.new
 

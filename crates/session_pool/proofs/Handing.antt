@@ -1,4 +1,4 @@
--- Each use of the queue keeps its rule.
+-- Each use of the queue keeps the queue's rule.
 use Rattle.std.proofs.Common.{◌≡◌, ◌≢◌, ℕ, zero, suc, ◌+◌, ◌<◌, ◌≤◌, true, false, true≢false, List, [], ◌∷◌, ◌++◌, Some, length, map, set, take, drop, length-append, append_assoc, refl, sym, ap, ◌∙◌, subst, ⊎_elim, arith}
 use Rattle.std.specs.List.{slice_get}
 use Rattle.std.proofs.lemmas.List.{map-append, take-append-drop, length-take, length-map}
@@ -17,13 +17,13 @@ use Rattle.session_pool.specs.declared.tally.Tally.{Tally}
 use Rattle.session_pool.proofs.Sums.{total_append, one, total_one, total_alone}
 use Rattle.session_pool.proofs.Risings.{rising_once, rising_snoc, rising_before, rising_left, merged_total, merged_rises}
 
--- what holds of the new view and of the others holds of all
+-- what holds of the new view and of each other view holds of all
 each_set : (F : ℕ → Tally → Type 0) (views : List Tally) (port : ℕ) (w : Tally) → F port w → ((j : ℕ) (u : Tally) → j ≢ port → get_elem? views j ≡ some u → F j u) → (j : ℕ) (u : Tally)
     → get_elem? (set views port w) j ≡ some u → F j u
 each_set F views port w mine others j u e = ⊎_elim (λ (x : (j ≡ port) × (w ≡ u)). subst (λ (y : ℕ × Tally). F y.0 y.1) (λ i. (sym x.0 i, x.1 i)) mine)
     (λ (x : (j ≢ port) × (get_elem? views j ≡ some u)). others j u x.0 x.1) (at_set views port j w u e)
 
--- one more of a list
+-- a prefix that is one element longer
 take_more : (xs : List ℕ) (n x : ℕ) → slice_get xs n ≡ Some x → take (suc n) xs ≡ take n xs ++ x ∷ []
 take_more [] n x e = absurd (cc)
 take_more (y ∷ ys) zero x e = let s : y ≡ x = cc in ap (λ z. z ∷ []) s
@@ -58,7 +58,7 @@ module _ {T : Type 0} (numbers : List ℕ) (number : T → ℕ) (fits : T → Ty
     each = first_each;
   }
 
-  -- what was popped rises, and what is next is greater
+  -- the popped numbers rise, followed by those of the items that are queued
   popped_rises : (items : List T) (views : List Tally) → (h : H items views) → Rising 0 (h.popped ++ map number items)
   popped_rises items views h =
       subst (Rising 0) h.prefix (rising_left 0 (take h.pushed numbers) (drop h.pushed numbers) (subst (Rising 0) (sym (take-append-drop h.pushed numbers)) h.rising))
@@ -193,7 +193,7 @@ module _ {T : Type 0} (numbers : List ℕ) (number : T → ℕ) (fits : T → Ty
           record { rising = merged_rises 0 v.taken u.taken mine.rising (h.each other u was).rising once; alone = mine.alone; counts = mine.counts; idle = λ z. absurd (omega arith) }
           (λ j y n e. h.each j y e)
 
-  -- what a token that pushes learns
+  -- what a token that may push learns: the queue holds no more than was pushed
   pub learns_room : (port : ℕ) (v : Tally) → v.pushes ≡ true → Learns H port v (λ items. length items ≤ v.pushed)
   learns_room port v may items views h at =
       let c = (h.each port v at).counts may in
@@ -202,7 +202,7 @@ module _ {T : Type 0} (numbers : List ℕ) (number : T → ℕ) (fits : T → Ty
       let d : length (map number items) ≡ length items = length-map items number in
       let e = length-take h.pushed numbers in omega arith
 
-  -- what the only token learns
+  -- what the only token learns: the queue holds what it has not taken
   pub learns_rest : (port : ℕ) (v : Tally) → v.parts ≡ 256 → v.pushes ≡ true → Learns H port v (IsRest numbers number v)
   learns_rest port v all may items views h at weight =
       let a : total (λ (u : Tally). total weight u.taken) views ≡ total weight v.taken = total_alone (λ (u : Tally). total weight u.taken) (λ (u : Tally). u.parts) views port v at (h.whole ∙ sym all)

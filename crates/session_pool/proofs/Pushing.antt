@@ -1,8 +1,8 @@
--- What waits is pushed, one after the other.
+-- The waiting sessions are pushed one after another.
 use Rattle.std.proofs.Common.{◌≡◌, ℕ, zero, suc, ◌+◌, ◌-◌, ◌≤◌, List, [], ◌∷◌, Some, All, length, map, drop, sym, ap, ◌∙◌, subst, arith}
 use Rattle.std.specs.List.{slice_get}
 
--- what a list that was begun goes on with
+-- the next element of a list, and the rest after it
 drop_next : (xs : List ℕ) (j x : ℕ) (rest : List ℕ) → drop j xs ≡ x ∷ rest → (slice_get xs j ≡ Some x) × (drop (suc j) xs ≡ rest)
 drop_next [] zero x rest e = absurd (cc)
 drop_next [] (suc j) x rest e = absurd (cc)
@@ -10,7 +10,7 @@ drop_next (y ∷ ys) zero x rest e = (let a : y ≡ x = cc in ap Some a, let b :
 drop_next (y ∷ ys) (suc j) x rest e = drop_next ys j x rest e
 
 module _ {T : Type 0} (numbers : List ℕ) (number : T → ℕ) (fits : T → Type 0) where
-  -- so many were left to push, of which x is next
+  -- d numbers were left to push, x is the next, and e are left after it
   pub record IsNext (d e : ℕ) (x : T) (ts : List T) : Type 0 where
     pub next : slice_get numbers (length numbers - d) ≡ Some (number x)
     pub left : map number ts ≡ drop (length numbers - e) numbers

@@ -1,4 +1,4 @@
--- Numbers that rise.
+-- Lists of rising numbers.
 use Rattle.std.proofs.Common.{◌≡◌, ◌≢◌, ℕ, zero, suc, ◌+◌, ◌<◌, ◌≤◌, Bool, true, false, cond, if◌then◌else◌, List, [], ◌∷◌, ◌++◌, length, map, get_or, filter, nat_lt, inl, inr, refl, sym, ap, ◌∙◌, subst, arith}
 use Rattle.std.specs.List.Sorted.{IsStrictlyIncreasing, IsNonDecreasingBy}
 use Rattle.std.proofs.lemmas.Bool.{cases_lt, ltb-true, lt-ltb}
@@ -21,7 +21,7 @@ at_least low y (x ∷ xs) r h = dite (ℕ_discrete y x)
     (λ (e : y ≡ x). let a = r.0 in omega arith)
     (λ (n : y ≢ x). let z = same_no y x n in let b = at_least (suc x) y xs r.1 (omega arith) in let a = r.0 in omega arith)
 
--- each stands there once
+-- each number occurs at most once
 pub rising_once : (low y : ℕ) (xs : List ℕ) → Rising low xs → times y xs ≤ 1
 rising_once low y [] r = omega arith
 rising_once low y (x ∷ xs) r = elim (cases_lt 0 (times y xs)) [
@@ -29,7 +29,7 @@ rising_once low y (x ∷ xs) r = elim (cases_lt 0 (times y xs)) [
   | inr l ↦ (let z = same_most y x in omega arith)
 ]
 
--- a greater one at the end
+-- a greater number is appended at the end
 pub rising_snoc : (low x : ℕ) (xs : List ℕ) → Rising low xs → low ≤ x → ((y : ℕ) → 0 < times y xs → y < x) → Rising low (xs ++ x ∷ [])
 rising_snoc low x [] r l h = (l, tt)
 rising_snoc low x (y ∷ ys) r l h = (
@@ -37,7 +37,7 @@ rising_snoc low x (y ∷ ys) r l h = (
   rising_snoc (suc y) x ys r.1 (let s = same_yes y y refl in let b = h y (omega arith) in omega arith) (λ z p. h z (omega arith)),
 )
 
--- those before x are less
+-- the numbers before x are less than x
 pub rising_before : (low x : ℕ) (xs zs : List ℕ) → Rising low (xs ++ x ∷ zs) → (y : ℕ) → 0 < times y xs → y < x
 rising_before low x [] zs r y h = absurd (omega arith)
 rising_before low x (w ∷ ws) zs r y h = dite (ℕ_discrete y w)
@@ -60,7 +60,7 @@ rising_filter test low (x ∷ xs) r = go (test x) (rising_filter test (suc x) xs
     go true h = (r.0, h)
     go false h = rising_lower (suc x) low (filter test xs) (let a = r.0 in omega arith) h
 
--- one in its place
+-- a number is inserted at its place
 pub inserted_total : (f : ℕ → ℕ) (x : ℕ) (ys : List ℕ) → total f (inserted x ys) ≡ f x + total f ys
 inserted_total f x [] = refl
 inserted_total f x (y ∷ ys) = go (nat_lt x y) (inserted_total f x ys)
@@ -96,7 +96,7 @@ merged_rises low (x ∷ xs) ys r q o = inserted_rises low x (merged xs ys) r.0
     (merged_rises low xs ys (rising_lower (suc x) low xs (let a = r.0 in omega arith) r.1) q (λ s. let k = o s in omega arith))
     (let t = merged_total (same x) xs ys in let k = o x in let s = same_yes x x refl in omega arith)
 
--- two lists of the same numbers that rise are one
+-- two rising lists with the same numbers are equal
 pub rising_same : (low : ℕ) (xs ys : List ℕ) → Rising low xs → Rising low ys → ((s : ℕ) → times s xs ≡ times s ys) → xs ≡ ys
 rising_same low [] [] r q h = refl
 rising_same low [] (y ∷ ys) r q h = absurd (let k = h y in let s = same_yes y y refl in omega arith)
@@ -113,7 +113,7 @@ rising_same low (x ∷ xs) (y ∷ ys) r q h = let others : xs ≡ ys = rising_sa
     first : x ≡ y
     first = let a = below in let b = above in omega arith
 
--- each is below the next
+-- each number is less than the next
 pub rising_increases : (low : ℕ) (xs : List ℕ) → Rising low xs → IsStrictlyIncreasing xs
 rising_increases low [] r k l = absurd (omega arith)
 rising_increases low (x ∷ []) r k l = absurd (omega arith)
@@ -125,7 +125,7 @@ times_there n [] i d l = absurd (omega arith)
 times_there n (x ∷ xs) zero d l = let s = same_yes (n x) (n x) refl in omega arith
 times_there n (x ∷ xs) (suc i) d l = let h = times_there n xs i d (omega arith) in omega arith
 
--- what does not fall, and stands there once, rises
+-- a list that does not fall and has each number at most once rises
 pub sorted_rises : {A : Type 0} (n : A → ℕ) (low : ℕ) (xs : List A) → IsNonDecreasingBy n xs → ((s : ℕ) → times s (map n xs) ≤ 1) → ((i : ℕ) (d : A) → i < length xs → low ≤ n (get_or xs i d))
     → Rising low (map n xs)
 sorted_rises n low [] up once least = tt

@@ -1,4 +1,4 @@
--- Which sessions have a script, and how often each stands where.
+-- Which sessions have a script, and how often each occurs in the lists.
 use Rattle.std.proofs.Common.{◌≡◌, ◌≢◌, ℕ, suc, ◌+◌, ◌-◌, ◌≤◌, Bool, true, false, cond, List, [], ◌∷◌, length, filter, Option, Some, None, refl, sym, ap, ◌∙◌, subst, arith}
 use Rattle.std.specs.Option.{is_some}
 use mathlib.Core.Logic.{dite}
@@ -82,7 +82,7 @@ module _ (scripts : Scripted) where
   no_script s none low high None q = refl
   no_script s none low high (Some i) q = let f = place_script scripts s i q in absurd (none record { low = low; high = high; place = i; lines = f.0; script = f.1 })
 
-  -- a session with a script stands once among those with a script, and no other stands there
+  -- a session with a script occurs once in the list of such sessions, and no other session does
   pub scripted_once : (s : ℕ) → HasScript scripts s → times s (scripted scripts) ≡ 1
   scripted_once s h = times_kept test s (numbers SESSIONS) (yes_script s h (place_in scripts s) refl) ∙ numbers_within s h.low h.high
 
@@ -102,7 +102,7 @@ module _ (scripts : Scripted) where
       let b : length (count_from 1 SESSIONS) ≡ length (numbers SESSIONS) = ap length all_sessions in
       let c : length (count_from 1 SESSIONS) ≡ SESSIONS = refl in omega arith
 
-  -- the last session of those that are left is divided from the others
+  -- the last of the sessions that are left is added to the divided ones
   pub one_more : (n k : ℕ) → n ≡ suc k → n ≤ SESSIONS → count_from (suc k) (SESSIONS - k) ≡ suc k ∷ count_from (suc n) (SESSIONS - n)
   one_more n k e l =
       sessions_from k (omega arith) ∙ ap (λ (p : ℕ × ℕ). suc k ∷ count_from p.0 p.1)

@@ -11,7 +11,7 @@ pub total_append : {A : Type 0} (f : A → ℕ) (xs ys : List A) → total f (xs
 total_append f [] ys = omega arith
 total_append f (x ∷ xs) ys = let h = total_append f xs ys in omega arith
 
--- each weighs one
+-- the weight of each number is one
 abbrev pub one : ℕ → ℕ
 one n = 1
 
@@ -22,7 +22,7 @@ total_one (x ∷ xs) = let h = total_one xs in omega arith
 pub same_most : (a b : ℕ) → same a b ≤ 1
 same_most a b = dite (ℕ_discrete a b) (λ e. let s = same_yes a b e in omega arith) (λ n. let s = same_no a b n in omega arith)
 
--- Where the weights of a list are those of one element, the others weigh nothing
+-- if a list weighs nothing by g, and each element without weight by g has none by f, the list weighs nothing by f
 none_of : {A : Type 0} (f g : A → ℕ) (xs : List A) → total g xs ≡ 0 → ((i : ℕ) (a : A) → get_elem? xs i ≡ some a → g a ≡ 0 → f a ≡ 0) → total f xs ≡ 0
 none_of f g [] e h = refl
 none_of f g (x ∷ xs) e h =

@@ -1,4 +1,4 @@
--- What lies in the hands is what was taken.
+-- The tasks in the workers' hands are the sessions that were taken.
 use Rattle.std.proofs.Common.{◌≡◌, ℕ, suc, ◌+◌, List, [], ◌∷◌, ◌++◌, All, Vec, length, map, refl, sym, ap, ◌∙◌, subst, arith}
 use Rattle.std.specs.List.{flat_map}
 use Rattle.std.specs.declared.alloc.Global.{Global}
@@ -26,7 +26,7 @@ pub all_map : {A B : Type 0} (P : B → Type 0) (g : A → B) (xs : List A) → 
 all_map P g [] a = All_none P
 all_map P g (x ∷ xs) a = All_cons P (g x) (map g xs) (a 0 x (omega arith)) (all_map P g xs (λ k d l. a (suc k) d (omega arith)))
 
--- lists that rise, and together are the sessions with a script
+-- rising lists that together have exactly the sessions with a script
 pub are_taken : (scripts : Scripted) (workers : ℕ) (lists : List (List ℕ)) → length lists ≡ workers → All (Rising 0) lists
     → ((weight : ℕ → ℕ) → total (total weight) lists ≡ total weight (scripted scripts)) → AreTaken scripts workers lists
 are_taken scripts workers lists count rising shared = record {
@@ -37,7 +37,7 @@ are_taken scripts workers lists count rising shared = record {
 }
 
 module _ {C : Type 0} {g : Ghosts C} where
-  -- what is told of the hands
+  -- the hands of the workers hold such lists
   pub hands_taken : (h : Hall C g) (scripts : Scripted) (workers : ℕ) (hands : List (Vec (Task C g) Global)) (lists : List (List ℕ)) → AreHands h scripts workers (scripted scripts) hands
       → lists ≡ map taken_in hands → AreTaken scripts workers lists
   hands_taken h scripts workers hands lists a is = subst (AreTaken scripts workers) (sym is)
@@ -51,7 +51,7 @@ module _ {C : Type 0} {g : Ghosts C} where
   flat_all P [] a = All_none P
   flat_all P (v ∷ vs) a = All-append P v.items (in_all vs) (a 0 v (omega arith)) (flat_all P vs (λ k d l. a (suc k) d (omega arith)))
 
-  -- the tasks of all hands behind others
+  -- what holds of the idle tasks and of those in all hands holds of all tasks
   pub tasks_all : (P : Task C g → Type 0) (idle ts : List (Task C g)) (hands : List (Vec (Task C g) Global)) → ts ≡ idle ++ in_all hands → All P idle → All (λ hand. All P hand.items) hands → All P ts
   tasks_all P idle ts hands is a b = subst (All P) (sym is) (All-append P idle (in_all hands) a (flat_all P hands b))
 

@@ -1,4 +1,4 @@
--- Workers, as they take sessions, and what is left when they go.
+-- The workers: how they take sessions, and what is left when they finish.
 use Rattle.std.proofs.Common.{◌≡◌, ℕ, zero, suc, ◌+◌, ◌<◌, ◌≤◌, false, List, [], ◌∷◌, ◌++◌, Option, Result, Ok, Err, IfOk, All, Vec, length, map, get_or, set, take, vec_len, vec_capacity, refl, sym, ap, ◌∙◌, subst, arith}
 use Rattle.std.specs.declared.alloc.Global.{Global}
 use Rattle.std.specs.declared.alloc.AllocError.{AllocError}
@@ -56,7 +56,7 @@ module _ {C : Type 0} {g : Ghosts C} {Q A : Type 0} (line : Slotted (Option (Wai
     room = room;
   }
 
--- what lies before what was written back
+-- the prefix before what was written back
 pub written_back : {A : Type 0} (xs zs : List A) (n : ℕ) → length xs ≡ n → take n (xs ++ zs) ≡ xs
 written_back [] zs zero e = refl
 written_back [] zs (suc n) e = absurd (omega arith)
@@ -64,7 +64,7 @@ written_back (x ∷ xs) zs zero e = absurd (omega arith)
 written_back (x ∷ xs) zs (suc n) e = ap (λ ys. x ∷ ys) (written_back xs zs n (omega arith))
 
 module _ {C : Type 0} {g : Ghosts C} where
-  -- one more hand
+  -- one more hand is added
   pub weight_on : (weight : ℕ → ℕ) (hands hands2 : List (Vec (Task C g) Global)) (v : Vec (Task C g) Global) (a b : List ℕ) → weight_of weight hands ≡ total weight a → b ≡ taken_in v → hands2 ≡ hands
       ++ v ∷ [] → weight_of weight hands2 ≡ total weight (merged a b)
   weight_on weight hands hands2 v a b old e is =
@@ -77,7 +77,7 @@ module _ {C : Type 0} {g : Ghosts C} where
   none_at [] e = refl
   none_at (w ∷ ws) e = absurd (omega arith)
 
-  -- hands with nothing in them
+  -- empty hands weigh nothing
   none_weigh : (weight : ℕ → ℕ) (hands : List (Vec (Task C g) Global)) → All (λ (u : Vec (Task C g) Global). u.items ≡ []) hands → weight_of weight hands ≡ 0
   none_weigh weight [] a = refl
   none_weigh weight (u ∷ us) a =
@@ -106,7 +106,7 @@ module _ {C : Type 0} {g : Ghosts C} (h : Hall C g) (scripts : Scripted) where
   tasks_on u v t is a k = subst (All (IsTask h scripts)) (sym is) (All-push (IsTask h scripts) u.items t a k)
 
   module _ {Q A : Type 0} (line : Slotted (Option (Waiting C g)) (Doing (Waiting C g) Tally) Q A) where
-    -- what is in the hands of those who worked
+    -- the tokens of the workers that have worked
     pub worked_tokens : (ws : List (Worker C g)) → All (IsAtWork line h scripts) ws → All (HasToken line) ws
     worked_tokens ws a k d l = (a k d l).token
 
@@ -124,11 +124,11 @@ module _ {C : Type 0} {g : Ghosts C} (h : Hall C g) (scripts : Scripted) where
       shared = shared;
     }
 
-    -- the hand of a worker has room
+    -- the hand of a worker that can take a session has room
     pub at_work_room : (w : Worker C g) → IsAtWork line h scripts w → length (view w.token).taken < SESSIONS → length w.hand.items < SESSIONS
     at_work_room w a few = let e : length (view w.token).taken ≡ length (taken_in w.hand) = ap (λ (v : Tally). length v.taken) a.token.knows in let m = length-map w.hand.items number_in in omega arith
 
-    -- it has taken one more
+    -- the worker has taken one more session
     pub at_work_on : (w : Worker C g) (p : Pass (Waiting C g) Tally) (v : Vec (Task C g) Global) (t : Task C g) (n : ℕ) → IsAtWork line h scripts w → IsPassOf line p
         → view p ≡ after_pop (view w.token) n → IsTaken SESSIONS (view w.token) (view p)
         → IsTask h scripts t → number_in t ≡ n → v.items ≡ w.hand.items ++ t ∷ [] → vec_capacity v ≡ vec_capacity w.hand → IsAtWork line h scripts (record { token = p; hand = v })
@@ -142,7 +142,7 @@ module _ {C : Type 0} {g : Ghosts C} (h : Hall C g) (scripts : Scripted) where
         knows : view p ≡ tally 1 false 0 (taken_in v)
         knows = is ∙ (ap (λ (u : Tally). after_pop u n) a.token.knows ∙ ap (tally 1 false 0) (sym (taken_on w.hand v t n items e)))
 
-  -- one more is taken from what was left
+  -- one more session is taken from what was left in the queue
   pub record IsRestTaken (u v : Vec (Task C g) Global) (old new : Tally) : Type 0 where
     pub tasks : All (IsTask h scripts) v.items
     pub rising : Rising 0 (taken_in v)
@@ -171,11 +171,11 @@ module _ {C : Type 0} {g : Ghosts C} (h : Hall C g) (scripts : Scripted) where
         (let a : total weight new.taken ≡ total weight (old.taken ++ n ∷ []) = ap (λ (w : Tally). total weight w.taken) is in let b = total_append weight old.taken (n ∷ []) in omega arith),
       )
 
-  -- the hand has room for what is left
+  -- the hand has room for each session that is left
   pub rest_room : (u : Vec (Task C g) Global) (old : Tally) → ((weight : ℕ → ℕ) → total weight (taken_in u) ≤ total weight old.taken) → length old.taken < SESSIONS → length u.items < SESSIONS
   rest_room u old within few = let a = within one in let b = total_one (taken_in u) in let c = total_one old.taken in let m = length-map u.items number_in in omega arith
 
-  -- where nothing is left all was taken
+  -- if the queue holds nothing, all was taken
   pub all_taken : {T : Type 0} (numbers : List ℕ) (number : T → ℕ) (v : Tally) → IsWhole (length numbers) v → Held 0 (IsRest numbers number v) → (weight : ℕ → ℕ)
       → total weight v.taken ≡ total weight numbers
   all_taken numbers number v whole held weight =
@@ -209,12 +209,12 @@ module _ {C : Type 0} {g : Ghosts C} (h : Hall C g) (scripts : Scripted) where
         let e : total weight (taken_in (get_or hands 0 u)) ≡ total weight (taken_in u) = ap (λ (y : Vec (Task C g) Global). total weight (taken_in y)) (sym is) in let r = rest weight in omega arith);
   }
 
--- the pass that was taken is the new one of its session
+-- the pass that was taken is the unused pass of its session
 module _ {C : Type 0} {g : Ghosts C} (h : Hall C g) (numbers : List ℕ) (told : TableId → Option Fitted → Type 0) (suits : Suits h numbers told) where
   pub unused_new : (w : Waiting C g) → IsUnused told w → IsNew h w.pass
   unused_new w u = let t = suits.tells w.pass.seat.seat.table_id (view_of w.pass.seat).base u.place in record { seat = t.0; base = t.1; seen = u.seen; asks = u.asks }
 
--- those that wait suit their own hall
+-- the waiting sessions suit their own hall
 module _ {C : Type 0} {g : Ghosts C} (h : Hall C g) (ws : List (Waiting C g)) where
   waiting_suit : (scripts : Scripted) → map number_at ws ≡ scripted scripts → Suits h (map number_at ws) (tells_of h)
   waiting_suit scripts is = record {

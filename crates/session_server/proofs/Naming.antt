@@ -1,4 +1,4 @@
--- Whom an answer names.
+-- The transaction that an answer names.
 use Rattle.std.proofs.Common.{◌≡◌, ◌≤◌, List, sym, ◌∙◌, arith}
 use Rattle.teb_names.specs.declared.TheConstants.{MOST_TXNS}
 use Rattle.teb_names.specs.declared.Session.{Session}
@@ -14,6 +14,6 @@ use Rattle.teb_laws.proofs.Cascades.{unfinished_times}
 use Rattle.teb_laws.proofs.Waits.{again_fair}
 use Rattle.session_server.specs.Waits.{WaitsAmong}
 
--- an Again names one that has begun
+-- an Again names a transaction that has begun
 pub names_begun : (X : Store) (H : List Event) (s : Session) (q : Request) (r : Reply) → Lawful X.setup H → begun_count H ≤ MOST_TXNS → r ≡ (answer X H s q).0 → WaitsAmong MOST_TXNS r
 names_begun X H s q r l few is = λ u n e. let fair = again_fair X H s q u n (sym is ∙ e) in let b = begun_counted X.setup H u.0 l (unfinished_times H u.0 fair.running).0 in (omega arith, omega arith)

@@ -1,4 +1,4 @@
--- Passes that were taken off the end of a list, and come back.
+-- A pass is removed from the end of a list and put back.
 use Rattle.std.proofs.Common.{◌≡◌, ℕ, List, [], ◌∷◌, ◌++◌, Option, Some, map, sym, ◌∙◌, ap}
 use Rattle.std.specs.Option.{option_to_list}
 use Rattle.std.proofs.lemmas.List.{map-append}
@@ -12,7 +12,7 @@ module _ {V : Type 0} {g : Ghosts V} where
   pub is_pass : (h : HallOf V g) (p : PassOf V g) → IsNew h p → IsPassOf h p
   is_pass h p n = (n.seat, n.base)
 
-  -- where the last was taken off, and a pass of its session put in its place, the sessions are the same
+  -- if the last pass is replaced by a pass of the same session, the sessions are the same
   pub same_numbers : (all rest other : List (PassOf V g)) (last : Option (PassOf V g)) (old new : PassOf V g) → all ≡ rest ++ option_to_list last → last ≡ Some old → new.session ≡ old.session
       → map number_of other ≡ map number_of rest
       → map number_of (other ++ new ∷ []) ≡ map number_of all

@@ -1,4 +1,4 @@
--- Scripts in ascending order are of distinct sessions.
+-- Scripts in ascending order have distinct sessions.
 use Rattle.std.proofs.Common.{◌≡◌, ℕ, zero, suc, ◌≤◌, List, [], ◌∷◌, map, Some, refl, ap, arith}
 use Rattle.std.specs.List.{slice_get}
 use Rattle.teb_names.specs.declared.Session.{Session}
@@ -8,7 +8,7 @@ use Rattle.teb_rules.specs.Driver.{Ascending}
 use Rattle.script_walk.specs.ScriptStates.{requests_on}
 use Rattle.session_tasks.specs.Scripted.{Scripted, AreDistinct}
 
--- the sessions rise, from low on
+-- the sessions rise and are at least low
 abbrev Rising : ℕ → Scripted → Type 0
 Rising low [] = Unit {0}
 Rising low (y ∷ ys) = (low ≤ y.0.0) × Rising (suc y.0.0) ys
@@ -27,7 +27,7 @@ rising_distinct low (y ∷ ys) a (suc i) zero s k l e f = let z : y ≡ (s, l) =
     absurd (omega arith)
 rising_distinct low (y ∷ ys) a (suc i) (suc j) s k l e f = ap suc (rising_distinct (suc y.0.0) ys a.1 i j s k l e f)
 
--- what the scripts ask
+-- the requests of the scripts
 abbrev pub asked_by : Scripted → List (Session × List Request)
 asked_by scripts = map (λ s. (s.0, requests_on s.1)) scripts
 

@@ -1,4 +1,4 @@
--- The sessions one after the other, up to the first that met an error.
+-- The sessions in order, up to the first that met an error.
 use Rattle.std.proofs.Common.{◌≡◌, ℕ, zero, suc, ◌+◌, ◌<◌, List, [], ◌∷◌, ◌++◌, All, map, length, length-append, get_or, refl, sym, ◌∙◌, ap, arith, inl, inr}
 use Rattle.std.specs.List.{Contains}
 use Rattle.std.proofs.lemmas.Bool.{cases_lt}
@@ -41,7 +41,7 @@ module _ {C : Type 0} {g : Ghosts C} where
   pub through_stands : (t : Task C g) → t.progress ≡ Through → HasNotFailed t
   through_stands t e w f = let z : Through ≡ _ = sym e ∙ f in absurd (cc)
 
-  -- a property of the tasks that follows from another
+  -- a property of the tasks can be replaced by one that it implies
   pub of_weaker : (P Q : Task C g → Type 0) → ((t : Task C g) → P t → Q t) → (e : RunError C g) → IsFirstError P e → IsFirstError Q e
   of_weaker P Q w e f = record {
     passed = f.passed;
@@ -60,7 +60,7 @@ module _ {C : Type 0} {g : Ghosts C} where
     };
   }
 
--- the i-th of the numbers from 1 on
+-- the i-th of the numbers from 1 to n is i + 1, counted from 0
 length-numbers : (n : ℕ) → length (numbers n) ≡ n
 unfolding numbers
 length-numbers zero = refl
@@ -74,7 +74,7 @@ number_of_place (suc n) i low = elim (cases_lt i n) [
   | inr l ↦ (let e : n ≡ i = omega arith in get_or_at (numbers n) (suc n) [] 0 i (length-numbers n ∙ e) ∙ ap suc e)
 ]
 
--- a session's task, which is one of these
+-- a task of the hall and the scripts that is in the list
 abbrev pub OfTasks : {C : Type 0} {g : Ghosts C} → Hall C g → Scripted → List (Task C g) → Task C g → Type 0
 OfTasks h x us t = IsTask h x t × Contains us t
 
@@ -82,7 +82,7 @@ module _ {C : Type 0} {g : Ghosts C} (h : Hall C g) (x : Scripted) (ts : List (T
   pub each_of : All (OfTasks h x ts) ts
   each_of k d low = (are.each k d low, All-contains_itself ts k d low)
 
-  -- the task at a place of all in order
+  -- the task at place i is that of session i + 1
   pub session_at : (i : ℕ) (t : Task C g) → i < length ts → t ≡ get_or ts i t → number_in t ≡ suc i
   session_at i t low is =
       let many : length ts ≡ SESSIONS = omega (arith, length-map ts number_in, ap length are.numbers, length-numbers SESSIONS) in

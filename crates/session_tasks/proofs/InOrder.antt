@@ -1,4 +1,4 @@
--- Tasks and passes one after the other, in the order of their sessions.
+-- Tasks and passes in the order of their sessions.
 use Rattle.std.proofs.Common.{◌≡◌, ℕ, suc, ◌+◌, ◌-◌, ◌<◌, ◌≤◌, List, [], ◌∷◌, ◌++◌, map, length, set, get_or, length-append, All, inl, inr, refl, sym, ◌∙◌, ap, subst, arith}
 use Rattle.std.proofs.lemmas.List.{map-append, length-map}
 use Rattle.std.proofs.lemmas.List.Elements.{All-push, All-set}
@@ -14,7 +14,7 @@ use Rattle.session_tasks.specs.Tasks.{AreTasks, IsTask, number_in}
 use Rattle.session_tasks.specs.declared.task.Task.{Task}
 use Rattle.teb_names.specs.declared.TheConstants.{SESSIONS}
 
--- the last of two lists that are the same
+-- equal lists have equal last elements
 pub last_same : {A : Type 0} (xs ys : List A) (x y : A) → xs ++ x ∷ [] ≡ ys ++ y ∷ [] → (xs ≡ ys) × (x ≡ y)
 last_same [] [] x y e = (refl, cc)
 last_same [] (b ∷ ys) x y e = absurd (let z : length (x ∷ []) ≡ length ((b ∷ ys) ++ y ∷ []) = ap length e in let l = length-append ys (y ∷ []) in omega arith)
@@ -25,14 +25,14 @@ module _ {C : Type 0} {g : Ghosts C} (h : Hall C g) (x : Scripted) where
   pub tasks_none : (items : List (Task C g)) → items ≡ [] → AreTasks h x [] items
   tasks_none items e = record { numbers = ap (map number_in) e; each = subst (All (IsTask h x)) (sym e) (All_none (IsTask h x)) }
 
-  -- one more, at the end
+  -- a task is appended
   pub tasks_push : (ns : List ℕ) (ts us : List (Task C g)) (t : Task C g) (n : ℕ) → AreTasks h x ns ts → IsTask h x t → number_in t ≡ n → us ≡ ts ++ t ∷ [] → AreTasks h x (ns ++ n ∷ []) us
   tasks_push ns ts us t n a k e is = record {
     numbers = ap (map number_in) is ∙ (map-append number_in ts (t ∷ []) ∙ λ i. a.numbers i ++ e i ∷ []);
     each = subst (All (IsTask h x)) (sym is) (All-push (IsTask h x) ts t a.each k);
   }
 
-  -- what is taken from the end
+  -- a task was removed from an end of the list
   pub record Popped (ns : List ℕ) (n : ℕ) (ts : List (Task C g)) (t : Task C g) : Type 0 where
     pub rest : AreTasks h x ns ts
     pub task : IsTask h x t
@@ -53,7 +53,7 @@ module _ {C : Type 0} {g : Ghosts C} (h : Hall C g) (x : Scripted) where
       let l : length (map number_in us) ≡ length (ns ++ n ∷ []) = ap length a.numbers in
       let m = length-append ns (n ∷ []) in omega arith
 
-  -- the first of them
+  -- the first task is removed
   pub tasks_front : (n : ℕ) (ns : List ℕ) (t : Task C g) (us ts : List (Task C g)) → AreTasks h x (n ∷ ns) us → us ≡ t ∷ ts → Popped ns n ts t
   tasks_front n ns t us ts a is =
       let all : All (IsTask h x) (t ∷ ts) = subst (All (IsTask h x)) is a.each in
@@ -63,14 +63,14 @@ module _ {C : Type 0} {g : Ghosts C} (h : Hall C g) (x : Scripted) where
         session = (let z : number_in t ≡ n = cc in z);
       }
 
-  -- one of them has gone on
+  -- one task is replaced by a later state of it
   pub tasks_set : (ns : List ℕ) (ts : List (Task C g)) (i : ℕ) (t d : Task C g) → AreTasks h x ns ts → IsTask h x t → number_in t ≡ number_in (get_or ts i d) → AreTasks h x ns (set ts i t)
   tasks_set ns ts i t d a k e = record {
     numbers = map-set_same number_in ts i t d e ∙ a.numbers;
     each = All-set (IsTask h x) ts i t k a.each;
   }
 
--- the sessions from one on
+-- the sessions from k + 1 on are k + 1 and the sessions from k + 2 on
 pub sessions_from : (k : ℕ) → k < SESSIONS → count_from (suc k) (SESSIONS - k) ≡ suc k ∷ count_from (suc (suc k)) (SESSIONS - suc k)
 sessions_from k l = ap (count_from (suc k)) (let e : SESSIONS - k ≡ suc (SESSIONS - suc k) = omega arith in e)
 
@@ -82,7 +82,7 @@ pub numbers_next : (n : ℕ) → numbers (suc n) ≡ numbers n ++ suc n ∷ []
 unfolding numbers
 numbers_next n = refl
 
--- the sessions after the next
+-- the sessions from k + 2 on, with the sum written in another way
 pub from_next : (k : ℕ) → k < SESSIONS → count_from (suc (suc k)) (SESSIONS - suc k) ≡ count_from (suc (k + 1)) (SESSIONS - (k + 1))
 from_next k l = ap (λ (p : ℕ × ℕ). count_from p.0 p.1) (λ i. ((let e : suc (suc k) ≡ suc (k + 1) = omega arith in e) i, (let e : SESSIONS - suc k ≡ SESSIONS - (k + 1) = omega arith in e) i))
 
@@ -91,12 +91,12 @@ unfolding numbers
 no_numbers = refl
 
 module _ {C : Type 0} {g : Ghosts C} (h : Hall C g) (x : Scripted) where
-  -- one more task stands behind the others
+  -- a task is appended to the tasks of the sessions 1 to k
   pub gathered_on : (k : ℕ) (ts us : List (Task C g)) (t : Task C g) → AreTasks h x (numbers k) ts → IsTask h x t → number_in t ≡ suc k → us ≡ ts ++ t ∷ [] → AreTasks h x (numbers (k + 1)) us
   gathered_on k ts us t a task is to = subst (λ (ns : List ℕ). AreTasks h x ns us) (sym (numbers_next k) ∙ ap numbers (let z : suc k ≡ k + 1 = omega arith in z))
       (tasks_push h x (numbers k) ts us t (suc k) a task is to)
 
-  -- the first of the tasks that are left
+  -- if a first task is left, k is below SESSIONS
   pub finish_front : (k : ℕ) (us ts : List (Task C g)) (t : Task C g) → k ≤ SESSIONS → AreTasks h x (count_from (suc k) (SESSIONS - k)) us → us ≡ t ∷ ts → k < SESSIONS
   finish_front k us ts t b a is = elim (cases_lt k SESSIONS) [
     | inl l ↦ l
@@ -121,7 +121,7 @@ module _ {C : Type 0} {g : Ghosts C} (h : Hall C g) where
   unfolding numbers
   all_passes ps n l e = let k : length (map number_of ps) ≡ length ps = length-map ps number_of in let z : length (map number_of ps) ≡ length (numbers SESSIONS) = ap length e in omega arith
 
-  -- the last pass is taken
+  -- the last pass is removed
   pub record LastOf (ps : List (Pass C g)) (p : Pass C g) (n : ℕ) : Type 0 where
     pub sessions : map number_of ps ≡ numbers n
     pub new : All (IsNew h) ps
@@ -139,7 +139,7 @@ module _ {C : Type 0} {g : Ghosts C} (h : Hall C g) where
         last_new = All_last (IsNew h) qs p all;
       }
 
-  -- one more pass stands behind the others
+  -- a pass is appended
   pub sessions_on : (ps qs : List (Pass C g)) (p : Pass C g) (n : ℕ) → map number_of ps ≡ numbers n → number_of p ≡ suc n → qs ≡ ps ++ p ∷ [] → map number_of qs ≡ numbers (suc n)
   sessions_on ps qs p n s e is = ap (map number_of) is ∙ (map-append number_of ps (p ∷ []) ∙ ((λ i. s i ++ e i ∷ []) ∙ sym (numbers_next n)))
 

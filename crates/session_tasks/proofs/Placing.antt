@@ -1,4 +1,4 @@
--- The place of a session among those that have a script.
+-- The place of a session among the sessions that have a script.
 use Rattle.std.proofs.Common.{◌≡◌, ◌≢◌, ℕ, zero, suc, ◌+◌, ◌<◌, Bool, true, false, if◌then◌else◌, List, [], ◌∷◌, length, Option, Some, None, IfSome, option_map, unwrap_or, eqb, eq-eqb, ne_eqb, eqb-true, refl, sym, ◌∙◌, ap, arith}
 use Rattle.std.specs.List.{slice_get}
 use Rattle.teb_names.specs.declared.Session.{Session}
@@ -8,7 +8,7 @@ use Rattle.session_tasks.specs.Scripted.{Scripted, AreDistinct, place_from, plac
 abbrev session_at : Scripted → ℕ → Option Session
 session_at scripts i = option_map (λ e. e.0) (slice_get scripts i)
 
--- none of those before place i is session s
+-- no script before place i is of session s
 abbrev pub NoneBefore : Scripted → ℕ → ℕ → Type 0
 NoneBefore scripts s i = (k : ℕ) (t : Session) → k < i → session_at scripts k ≡ Some t → t.0 ≢ s
 
@@ -27,7 +27,7 @@ place_none (x ∷ xs) n s h =
     ap (λ b. if b then Some n else place_from (suc n) s xs) (ne_eqb x.0.0 s (h 0 x.0 (omega arith) refl))
     ∙ place_none xs (suc n) s (λ k u l a. h (suc k) u (omega arith) a)
 
--- what stands at a place that was found
+-- the script at the place that was found
 pub record IsFoundAt (scripts : Scripted) (n s m : ℕ) : Type 0 where
   pub index : ℕ
   pub lines : List Line
@@ -67,7 +67,7 @@ place_lacks (x ∷ xs) n s q zero l e =
     let z : Some n ≡ None = sym (ap (λ b. if b then Some n else place_from (suc n) s xs) (eq-eqb x.0.0 s (ap (λ (v : Session × List Line). v.0.0) y))) ∙ q in absurd (cc)
 place_lacks (x ∷ xs) n s q (suc i) l e = place_lacks xs (suc n) s (rest_none (eqb x.0.0 s) n _ q) i l e
 
--- the place of a session whose script is known
+-- the place of a session is within the list of scripts
 pub place_within : (scripts : Scripted) (s i : ℕ) → place_in scripts s ≡ Some i → i < length scripts
 place_within scripts s i q = let f = place_found scripts 0 s i q in let z = f.is in let y = f.within in omega arith
 
@@ -77,7 +77,7 @@ place_script scripts s i q = let f = place_found scripts 0 s i q in (f.lines, ap
 pub lines_there : (scripts : Scripted) (i : ℕ) (s : Session) (l : List Line) → slice_get scripts i ≡ Some (s, l) → lines_at scripts (Some i) ≡ l
 lines_there scripts i s l e = ap (λ (o : Option (Session × List Line)). unwrap_or (option_map (λ x. x.1) o) []) e
 
--- the lines at the place of a session are those of its script
+-- the lines at a session's place are those of its script
 pub script_lines : (scripts : Scripted) → AreDistinct scripts → (s : Session) (o : Option ℕ) → o ≡ place_in scripts s.0 → (i : ℕ) (l : List Line) → slice_get scripts i ≡ Some (s, l)
     → lines_at scripts o ≡ l
 script_lines scripts d s None q i l e = absurd (place_lacks scripts 0 s.0 (sym q) i l e)

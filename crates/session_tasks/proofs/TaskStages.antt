@@ -1,4 +1,4 @@
--- A task as it is begun, served on and ended.
+-- A task when it begins, while it is served, and when it ends.
 use Rattle.std.proofs.Common.{◌≡◌, ◌≢◌, ℕ, List, [], Option, Some, None, refl, sym, ◌∙◌, ap, subst}
 use Rattle.std.specs.List.{slice_get}
 use Rattle.teb_names.specs.declared.Entry.{Entry}
@@ -19,7 +19,7 @@ use Rattle.session_tasks.specs.declared.task.Task.{Task}
 use Rattle.session_tasks.specs.declared.task.Progress.TheVariants.{Open, Through, Failed}
 use Rattle.session_tasks.proofs.Placing.{place_script, lines_there, script_lines}
 
--- a walker at the first line, before any answer
+-- a walker at the first line, before any reply
 way_new : (lines : List Line) (E : List Entry) (w : Walker) → E ≡ [] → state_of lines w ≡ at_first (requests_on lines) → IsUnderWay lines E w
 unfolding WayFrom state_after
 way_new lines E w e s = record {
@@ -57,7 +57,7 @@ module _ {C : Type 0} {g : Ghosts C} (h : Hall C g) (x : Scripted) where
     idle = λ e. (n, refl);
   }
 
-  -- a session before the first request
+  -- a session before its first request
   pub begun : (p : Pass C g) (o : Option ℕ) (w : Walker) → IsNew h p → o ≡ place_in x p.session.0 → ((lines : List Line) → state_of lines w ≡ at_first (requests_on lines))
       → IsTask h x (record { place = o; pass = p; walker = w; progress = progress_at o })
   begun p None w n q s = begun_idle p w n q s
@@ -67,7 +67,7 @@ module _ {C : Type 0} {g : Ghosts C} (h : Hall C g) (x : Scripted) where
   no_place s None q f = refl
   no_place s (Some j) q f = let z = place_script x s.0 j (sym q) in absurd (f j z.0 z.1)
 
-  -- a session that has worked through its script
+  -- a session that has finished its script
   pub task_served : (t : Task C g) → AreDistinct x → IsTask h x t → t.progress ≡ Through → IsServed h x t.pass
   task_served t d a e = record {
     hall = a.hall;
@@ -86,6 +86,6 @@ module _ {C : Type 0} {g : Ghosts C} (h : Hall C g) (x : Scripted) where
     way = subst (λ (ls : List Line). IsWay (requests_on ls) (mine t.pass)) (ap (lines_at x) q ∙ lines_there x j t.pass.session f.0 f.1) a.way.way;
   }
 
-  -- a session whose pass is spent
+  -- a session whose pass is used up
   pub task_spent : (t : Task C g) → IsTask h x t → t.progress ≡ Failed PassSpent → IsSpent h x t.pass
   task_spent t a e = spent_at t t.place refl a e

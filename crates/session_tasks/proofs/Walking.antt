@@ -1,4 +1,4 @@
--- A walk goes on by one entry.
+-- A walk advances by one entry.
 use Rattle.std.proofs.Common.{◌≡◌, List, [], ◌∷◌, ◌++◌, Some, None, sym, ◌∙◌, ap, subst}
 use mathlib.Core.List.{map-append}
 use Rattle.teb_names.specs.declared.Entry.{Entry}

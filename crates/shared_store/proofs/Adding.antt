@@ -34,7 +34,7 @@ adds_more n old mid new p q = record {
   mine = all_append (IsMarkOf n) p.marks q.marks p.mine q.mine;
 }
 
--- what is asked for another adds marks
+-- a request that the session makes for another session adds only marks
 pub adds_for_other : (first : Stage) (by s : Session) (q : Request) (o : Result TheReply Fault) (old new : List LifeEntry) → s.0 ≢ by.0 → AddsResult first by s q o old new → AddsMarks by.0 old new
 adds_for_other first by s q (Ok r) old new o a = adds_one by.0 (Asked by s q a.short) old new (for_other by s q a.short o) a.is
 adds_for_other first by s q (Err f) old new o a = adds_nothing by.0 old new a
@@ -43,7 +43,7 @@ module _ (first : Stage) (s : Session) (q : Request) (old mid new : List LifeEnt
   adds_call : (r : TheReply) → AddsAsked first s s q r mid new → AddsCall first s q r old new
   adds_call r a = record { before = mid; short = a.short; stage = a.stage; goes_on = m; is = a.is; leads = a.leads; reply = a.reply; short_of = a.short_of }
 
-  -- what the session itself asks adds a call
+  -- a request that the session makes for itself adds a call
   pub adds_ok : (r : TheReply) (n : ℕ) → o ≡ Ok r → Adds first s q (answer.Reply (Reply r) n) old new
   adds_ok r n e = adds_call r (subst (λ (p : Result TheReply Fault). AddsResult first s s q p mid new) e a)
 
@@ -60,7 +60,7 @@ call_grows first s q r old new a = let P : LifeEntry → Type 0 = λ (e : LifeEn
   mine = all_append P a.goes_on.marks (call ∷ []) (All_map (IsMarkOf s.0) P a.goes_on.marks (λ e p. p.0) a.goes_on.mine) (All_cons P call [] refl (All_none P));
 }
 
--- all that is added is of the session
+-- every added entry is the session's own
 pub adds_grow : (first : Stage) (s : Session) (q : Request) (r : Answer) (old new : List LifeEntry) → Adds first s q r old new → GrowsBy s.0 old new
 adds_grow first s q (answer.Reply (Reply r) n) old new a = call_grows first s q r old new a
 adds_grow first s q (answer.Reply Later n) old new a = marks_grow s.0 old new a

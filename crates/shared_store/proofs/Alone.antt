@@ -1,4 +1,4 @@
--- Rows that ascend are one list, by the value that each cell has.
+-- Two ascending lists of rows are equal if each cell has the same value in both.
 use Rattle.std.proofs.Common.{◌≡◌, Bool, true, false, cond, List, [], ◌∷◌, Option, Some, None, refl, sym, ap, subst, ◌∙◌, ℤ}
 use Rattle.std.specs.List.{list_all}
 use Rattle.std.proofs.lemmas.Bool.{and_parts, and_from, false_from_ne_true}

@@ -1,4 +1,4 @@
--- What a call makes of a session, by what its seats have seen.
+-- What a call changes in a session, by what its seats have seen.
 use Rattle.std.proofs.Common.{◌≡◌, ◌≢◌, Result, Ok, Err, ℕ, ◌+◌, ◌*◌, ◌≤◌, List, ◌++◌, Some, append_assoc, refl, ◌∙◌, ap, subst, arith}
 use Rattle.std.specs.Prelude.{IfOk, IsTrue}
 use Rattle.teb_names.specs.declared.Reply.{Reply as TheReply}
@@ -22,7 +22,7 @@ use Rattle.shared_store.specs.Lives.{calls_of}
 use Rattle.shared_store.specs.Gaining.{Gains, SafeAt, SeesCall, SeesMarks, TakesTurns, is_commit_reply}
 use Rattle.shared_store.specs.Sharing.{GoesOn, IsAnswered, IsSafe, IsUnasked, seen}
 
--- what a seat sees, by the result
+-- what a seat gains, by the result
 module _ (b : Stage) (s : Session) (q : Request) (v w : View LifeEntry Stage) where
   abbrev pub GainsFor : Result StoreReply Failure → Type 0
   GainsFor r = Gains b s q r v w
@@ -44,7 +44,7 @@ module _ (b : Stage) (s : Session) (q : Request) (v w : View LifeEntry Stage) wh
   pub gains_unasked : (o : Result StoreReply Failure) (t : Fault) → o ≡ Err (Unasked t) → GainsFor o → SeesMarks s.0 v w
   gains_unasked o t e f = subst GainsFor e f
 
--- a commit that was made
+-- what holds of a commit that was made
 pub safe_commit : (P : Type 0) (o : Result StoreReply Failure) (a : StoreReply) → o ≡ Ok a → a ≡ Reply Committed → IfOk o (λ x. IsTrue (is_commit_reply x) → P) → P
 safe_commit P o a e is h = (subst (λ (p : Result StoreReply Failure). IfOk p (λ x. IsTrue (is_commit_reply x) → P)) (e ∙ ap (λ (x : StoreReply). Ok x) is) h) refl
 
@@ -75,6 +75,6 @@ module _ {V L B : Type 0} {g : Ghosts V L B} (b : Stage) (old new : StoreSession
 pub safe : {V L B : Type 0} {g : Ghosts V L B} (b : Stage) (p : StoreSession V L B g) → SafeAt b (view_of p.seat).seen (view_of p.log_seat).seen → IsSafe b p
 safe b p s = record { stage = s.stage; leads = s.leads; kept = s.kept }
 
--- what the seat of a session knows after some turns
+-- what a session's seat knows after some turns
 pub knows_on : (s asks later n : ℕ) (v w : View LifeEntry Stage) → Knows s asks v → TakesTurns n v w → MOST_TURNS ≤ w.turns + 2 * later → later ≤ MOST_ASKS → Knows s later w
 knows_on s asks later n v w k t turns few = record { owner = t.owners ∙ k.owner; turns = turns; few = few; legal = λ b e. t.legal b e }

@@ -17,7 +17,7 @@ pub calls_none : (n : ℕ) (es : List LifeEntry) → All (λ (e : LifeEntry). is
 calls_none n [] a = refl
 calls_none n (e ∷ es) a = ap (λ b. cond b (e ∷ calls_of n es) (calls_of n es)) (a 0 e (omega arith)) ∙ calls_none n es (λ k d l. a (suc k) d (omega arith))
 
--- marks are no calls
+-- marks are not calls
 pub marks_none : (n : ℕ) (es : List LifeEntry) → All (IsMarkOf n) es → calls_of n es ≡ []
 marks_none n es a = calls_none n es (All_map (IsMarkOf n) (λ (e : LifeEntry). is_call_of n e ≡ false) es (λ e m. m.1) a)
 
@@ -33,13 +33,13 @@ no_call n Stopped o = refl
 all_others : (n : ℕ) (es : List LifeEntry) → All (λ (e : LifeEntry). times (owner_of e) (n ∷ []) ≡ 0) es → All (λ (e : LifeEntry). is_call_of n e ≡ false) es
 all_others n es a = All_map (λ (e : LifeEntry). times (owner_of e) (n ∷ []) ≡ 0) (λ (e : LifeEntry). is_call_of n e ≡ false) es (λ e z. no_call n e (is_other n (owner_of e) z)) a
 
--- nor are entries of others
+-- entries of other owners are not calls of the session
 pub others_none : (n : ℕ) (os : List ℕ) (es more : List LifeEntry) → os ≡ n ∷ [] → All (λ (e : LifeEntry). times (owner_of e) os ≡ 0) more → calls_of n (es ++ more) ≡ calls_of n es
 others_none n os es more o a = calls_append n es more
     ∙ (ap (λ (l : List LifeEntry). calls_of n es ++ l) (calls_none n more (all_others n more (subst (λ (ys : List ℕ). All (λ (e : LifeEntry). times (owner_of e) ys ≡ 0) more) o a)))
     ∙ append-nil (calls_of n es))
 
--- a call of the session is one
+-- a request that a session makes for itself is a call of the session
 pub own_call : (s : Session) (q : Request) (r : Option ShortReply) → is_call_of s.0 (Asked s s q r) ≡ true
 own_call s q r = ap (λ (b : Bool). b && b) (eq-eqb s.0 s.0 refl)
 
@@ -47,10 +47,10 @@ and_no : (b : Bool) → b && false ≡ false
 and_no true = refl
 and_no false = refl
 
--- what it asks for another is a mark
+-- a request that a session makes for another session is a mark
 pub for_other : (by s : Session) (q : Request) (r : Option ShortReply) → s.0 ≢ by.0 → IsMarkOf by.0 (Asked by s q r)
 for_other by s q r o = (refl, ap (λ (b : Bool). (by.0 == by.0) && b) (ne_eqb s.0 by.0 o) ∙ and_no (by.0 == by.0))
 
--- a call alone
+-- the calls in a list of one call
 pub one_call : (s : Session) (q : Request) (r : Option ShortReply) → calls_of s.0 (Asked s s q r ∷ []) ≡ Asked s s q r ∷ []
 one_call s q r = let e : LifeEntry = Asked s s q r in ap (λ b. cond b (e ∷ []) []) (own_call s q r)

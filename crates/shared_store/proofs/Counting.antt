@@ -1,4 +1,4 @@
--- A request adds a commit to the history if its reply is Committed, and else none.
+-- A request adds a commit to the history if and only if its reply is Committed.
 use Rattle.std.proofs.Common.{◌≡◌, ◌+◌, ℕ, Bool, true, false, cond, not, ◌&&◌, ltb, leb, List, [], ◌∷◌, Option, Some, None, refl, ap, arith, unwrap_or, is_none, ℤ, ◌+ℤ◌}
 use Rattle.teb_names.specs.declared.TheConstants.{MOST_TXNS, SESSIONS}
 use Rattle.teb_names.specs.declared.Session.{Session}
@@ -38,7 +38,7 @@ count_abort : (H : List Event) (t : ℕ) (c : Cause) → commit_count (abort H t
 unfolding commit_count abort
 count_abort H t c = count_fall H t (cascade H t) (Gone (txn t) c ∷ H)
 
--- what an answer adds
+-- an answer adds as many commits to the history as its reply says
 abbrev pub IsCounted : List Event → Answered → Type 0
 IsCounted H x = commit_count x.1 ≡ commit_count H + commits_in x.0
 

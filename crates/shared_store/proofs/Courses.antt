@@ -1,4 +1,4 @@
--- From a stage a list of entries leads to one stage at most.
+-- A list of entries leads from a stage to at most one stage.
 use Rattle.std.proofs.Common.{◌≡◌, ℕ, suc, Bool, true, false, cond, ◌||◌, List, [], ◌∷◌, ◌++◌, All, refl, sym, ◌∙◌, ap, subst, arith}
 use Rattle.std.specs.List.{list_any}
 use Rattle.turn_lock.specs.Counts.{times}
@@ -33,7 +33,7 @@ pub runs_on : (g h k : Stage) (xs ys : List LifeEntry) → Runs g xs h → Runs 
 runs_on g h k [] ys r q = subst (λ (m : Stage). Runs m ys k) r q
 runs_on g h k (x ∷ xs) ys r q = (r.0, r.1, runs_on r.0 h k xs ys r.2 q)
 
--- what is behind the last taking changes nothing of it
+-- appending entries without a taking does not change what was taken
 any_append : (xs ys : List LifeEntry) → list_any is_taking ys ≡ false → list_any is_taking (xs ++ ys) ≡ list_any is_taking xs
 any_append [] ys n = n
 any_append (x ∷ xs) ys n = ap (λ b. is_taking x || b) (any_append xs ys n)
@@ -54,7 +54,7 @@ any_last (x ∷ xs) e t = ap (λ b. is_taking x || b) (any_last xs e t) ∙ or_y
     or_yes true = refl
     or_yes false = refl
 
--- and a taking takes all
+-- if the last entry is a taking, all entries are taken
 pub taken_all : (xs : List LifeEntry) (e : LifeEntry) → is_taking e ≡ true → taken_of (xs ++ e ∷ []) ≡ xs ++ e ∷ []
 taken_all [] e t = ap (λ b. cond (b || false) (e ∷ []) []) t
 taken_all (x ∷ xs) e t = ap (λ (p : Bool × List LifeEntry). cond p.0 (x ∷ p.1) []) (λ i. ((ap (λ b. is_taking x || b) (any_last xs e t) ∙ or_yes (is_taking x)) i, taken_all xs e t i))
@@ -72,7 +72,7 @@ not_taking Taken z = absurd (let one = is_own LOG_SEAT LOG_SEAT refl in omega ar
 not_taking Turned z = absurd (let one = is_own LOG_SEAT LOG_SEAT refl in omega arith)
 not_taking Stopped z = refl
 
--- entries of sessions take nothing
+-- entries that the log's seat does not own include no taking
 pub others_take_none : (os : List ℕ) (es : List LifeEntry) → os ≡ LOG_SEAT ∷ [] → All (λ (e : LifeEntry). times (owner_of e) os ≡ 0) es → list_any is_taking es ≡ false
 others_take_none os [] o a = refl
 others_take_none os (e ∷ es) o a = ap (λ (p : Bool × Bool). p.0 || p.1) (λ i. (

@@ -34,7 +34,7 @@ use Rattle.shared_store.specs.Sharing.{IsNewIn, number_of}
 use Rattle.shared_store.specs.Stages.{Stage, first_stage}
 use Rattle.shared_store.proofs.Living.{no_commits, nothing_legal}
 
--- a session that was just made
+-- what a new session knows
 pub fresh_knows : (s : ℕ) (v : View LifeEntry Stage) → IsFresh s v → Knows s 0 v
 fresh_knows s v f = record {
   owner = f.owner;
@@ -46,7 +46,7 @@ fresh_knows s v f = record {
 pub fresh_knows_log : (s : ℕ) (v : View Kept Place) → IsFreshLog s v → KnowsLog s 0 v
 fresh_knows_log s v f = record { owner = f.owner; turns = (let z = f.turns in let y : MOST_TURNS ≤ v.turns + 2 * 0 = omega arith in y) }
 
--- the log's seat is dealt out of the first seat at the front
+-- the first seat at the front owns the log's seat and others
 pub has_log_seat : (b : Stage) (v : View LifeEntry Stage) → v ≡ first_view b 0 LOG_SEAT → Has v.owners LOG_SEAT × (without LOG_SEAT v.owners ≢ [])
 has_log_seat b v e =
     let o : v.owners ≡ count_from 1 LOG_SEAT = ap (λ (u : View LifeEntry Stage). u.owners) e in
@@ -63,7 +63,7 @@ log_seated b v w e f = record {
   turns = (let t : w.turns ≡ LOG_TURNS = ap (λ (u : View LifeEntry Stage). u.turns) f in let z : LOG_TURNS ≤ w.turns = omega arith in z);
 }
 
--- all owners are back once it is joined again
+-- once the log's seat is joined again, the seat has all owners
 pub all_back : (b : Stage) (v r w x z : View LifeEntry Stage) → v ≡ first_view b 0 LOG_SEAT → r ≡ remaining LOG_SEAT LOG_TURNS v → w ≡ given LOG_SEAT LOG_TURNS v → x ≡ w → z ≡ both_views r x
     → HasAll LOG_SEAT z.owners
 all_back b v r w x z e f h same k o low high =
@@ -96,7 +96,7 @@ log_keeps keep x b v w is none e f k = record {
       });
 }
 
--- what is left of the first seat before session n is dealt
+-- what is left of the first seat at the front before session n is dealt
 pub record Rest {E B : Type 0} (b : B) (n : ℕ) (v : View E B) : Type 0 where
   pub base : v.base ≡ Some b
   pub owners : v.owners ≡ count_from n (suc SESSIONS - n)
@@ -111,7 +111,7 @@ rest_first {E} {B} b v e = record {
   seen = ap (λ (u : View E B). u.seen) e;
 }
 
--- of the first seat at the front the log's seat was dealt before
+-- what is left of the first seat at the front after the log's seat was dealt
 pub rest_front : {E B : Type 0} (b : B) (v : View E B) → v ≡ remaining LOG_SEAT LOG_TURNS (first_view b 0 LOG_SEAT) → Rest b 1 v
 rest_front {E} {B} b v e = record {
   base = ap (λ (u : View E B). u.base) e;

@@ -1,4 +1,4 @@
--- What a call makes of a session.
+-- What a session's seat sees in a call.
 use Rattle.std.proofs.Common.{◌≡◌, ℕ, List, [], ◌∷◌, ◌++◌, append_assoc, sym, ◌∙◌, ap, subst}
 use Rattle.teb_names.specs.declared.Reply.{Reply as TheReply}
 use Rattle.teb_names.specs.declared.Request.{Request}
@@ -15,7 +15,7 @@ use Rattle.shared_store.specs.declared.reply.StoreReply.{StoreReply}
 use Rattle.shared_store.specs.Gaining.{Sees, SeesCall, SeesMarks}
 use Rattle.shared_store.specs.Turning.{IsPutOff}
 
--- marks, and then what is seen by an answer
+-- a seat sees marks, and then what an answer adds
 module _ (b : Stage) (s : Session) (u v w : View LifeEntry Stage) (m : SeesMarks s.0 u v) where
   marks_on : SeesMarks s.0 v w → SeesMarks s.0 u w
   marks_on n = record { more = m.more ++ n.more; is = n.is ∙ (ap (λ (l : List LifeEntry). l ++ n.more) m.is ∙ append_assoc u.seen m.more n.more); calls = n.calls ∙ m.calls }
@@ -42,11 +42,11 @@ module _ (b : Stage) (s : Session) (u v w : View LifeEntry Stage) (m : SeesMarks
   sees_on q answer.Ending a = marks_on a
   sees_on q (answer.Unasked f) a = marks_on a
 
--- what is seen from the same seat of the same session
+-- what is seen by equal sessions from equal views
 pub sees_from : (b : Stage) (r s : Session) (q : Request) (a : Answer) (u v w : View LifeEntry Stage) → r ≡ s → u ≡ v → Sees b r q a u w → Sees b s q a v w
 sees_from b r s q a u v w e f h = subst (λ (p : Session × View LifeEntry Stage). Sees b p.0 q a p.1 w) (λ i. (e i, f i)) h
 
--- what is seen by an answer that is known
+-- what is seen, by the variant of the answer
 module _ (b : Stage) (s : Session) (q : Request) (v w : View LifeEntry Stage) (o : Answer) (h : Sees b s q o v w) where
   at : (p : Answer) → o ≡ p → Sees b s q p v w
   at p e = subst (λ (a : Answer). Sees b s q a v w) e h
@@ -54,7 +54,7 @@ module _ (b : Stage) (s : Session) (q : Request) (v w : View LifeEntry Stage) (o
   pub sees_ending : o ≡ answer.Ending → SeesMarks s.0 v w
   sees_ending e = at answer.Ending e
 
--- what holds if nothing was asked, since the epoch is to end
+-- what holds if nothing was asked because the epoch is about to end
 module _ (P : Type 0) (o : Answer) (h : IsPutOff o → P) where
   pub later_put_off : (a : StoreReply) (n : ℕ) → o ≡ answer.Reply a n → a ≡ Later → P
   later_put_off a n is e = h (subst IsPutOff (sym (is ∙ ap (λ (x : StoreReply). answer.Reply x n) e)) tt)

@@ -1,4 +1,4 @@
--- The sessions of a store that is closed, and what its list tells of them.
+-- The sessions of a closed store, and what its list says of them.
 use Rattle.std.proofs.Common.{◌≡◌, ℕ, suc, ◌+◌, ◌<◌, ◌≤◌, Bool, List, [], ◌∷◌, ◌++◌, map, length, All, append-nil, append_assoc, inl, inr, refl, sym, ◌∙◌, ap, subst, arith}
 use Rattle.std.proofs.lemmas.List.{length-map}
 use Rattle.std.proofs.lemmas.Bool.{cases_lt}
@@ -41,7 +41,7 @@ use Rattle.shared_store.proofs.Courses.{others_take_none, taken_behind}
 use Rattle.shared_store.proofs.Keeping.{kept_still}
 use Rattle.shared_store.proofs.Settling.{total_more}
 
--- the owners of a life that was written to its end
+-- the entries of a finished life have owners from 1 to LOG_SEAT
 pub owned_all : (old new : List LifeEntry) → AddsNoCalls old new → All (λ (e : LifeEntry). (1 ≤ owner_of e) × (owner_of e ≤ LOG_SEAT)) old
     → All (λ (e : LifeEntry). (1 ≤ owner_of e) × (owner_of e ≤ LOG_SEAT)) new
 owned_all old new m a = subst (All P) (sym m.is)
@@ -55,7 +55,7 @@ owned_all old new m a = subst (All P) (sym m.is)
     append_all [] ys x y = y
     append_all (e ∷ es) ys x y = All_cons P e (es ++ ys) (x 0 e (omega arith)) (append_all es ys (λ k d l. x (suc k) d (omega arith)) y)
 
--- the seats of all sessions in one turn
+-- the owners of the seats of all sessions in one turn
 module _ {V L B : Type 0} {g : Ghosts V L B} {T E C : Type 0} (gh : member.Ghosts T E C) (t : Turn T E C) (seat_of : StoreSession V L B g → Seat T E C)
     (owned : (p : StoreSession V L B g) → (view_of (seat_of p)).owners ≡ p.session.0 ∷ []) (out : (p : StoreSession V L B g) → IsOutside (seat_of p)) where
   owners_all : (ps : List (StoreSession V L B g)) → all_owners (map seat_of ps) ≡ map number_of ps
@@ -117,7 +117,7 @@ module _ {V L B : Type 0} {g : Ghosts V L B} where
   some_left [] has = let h = has 1 (omega arith) (omega arith) in absurd (omega arith)
   some_left (p ∷ ps) has = omega arith
 
-  -- the seat in which the log's seat was joined, too
+  -- the seat into which the log's seat was joined has all owners
   module _ (first given new : Seat (Hosted V L B g) LifeEntry Stage) (is : view_of new ≡ both_views (view_of first) (view_of given)) where
     pub all_of : (view_of given).owners ≡ LOG_SEAT ∷ [] → HasAll SESSIONS (view_of first).owners → HasAll LOG_SEAT (view_of new).owners
     all_of own has o low high = elim (cases_lt SESSIONS o) [
@@ -172,7 +172,7 @@ module _ {V L B : Type 0} {g : Ghosts V L B} where
       → length items ≡ 0 → Ends entries_in owner_of note_in first_of (view_of first) x → AddsNoCalls (entries_in x) life → AtFront t whole items first → All (IsWithin life) whole
   all_within t whole items first x life none ends m inv = within x t life m whole (finishes front_ghosts t front_seat (λ p. p.knows.owner) (λ p. p.outside) whole items first x none ends inv)
 
-  -- no session was told of more than the log keeps
+  -- no session was told of more commits than the log keeps
   told_all : (u : Turn (Keeper V L B g) Kept Place) (x : Keeper V L B g) (least : ℕ) → x.total ≤ least → (ps : List (StoreSession V L B g)) → All (closing.Tells log_ghosts u x) (map log_seat ps)
       → All (λ (p : StoreSession V L B g). told p ≤ least) ps
   told_all u x least l [] a = All_none (λ (p : StoreSession V L B g). told p ≤ least)

@@ -1,4 +1,4 @@
--- What writing makes of what the log keeps.
+-- What a write of the log makes of the commits that it keeps.
 use Rattle.std.proofs.Common.{◌≡◌, Result, Ok, Err, ℕ, ◌+◌, ◌≤◌, max, Bool, true, false, true≢false, List, [], ◌∷◌, ◌++◌, Some, refl, sym, ◌∙◌, ap, subst, arith}
 use Rattle.std.specs.Prelude.{OnOk, OnErr}
 use Rattle.std.specs.Coded.{le_prop}
@@ -24,7 +24,7 @@ total_last : (ks : List Kept) (k : Kept) → total_in (ks ++ k ∷ []) ≡ max (
 total_last [] k = omega arith
 total_last (x ∷ xs) k = let h = total_last xs k in omega arith
 
--- the total that is told last is the greatest
+-- the last total that was told is the greatest
 pub total_now : (old new : List Kept) (k : Kept) (total : ℕ) → new ≡ old ++ k ∷ [] → total_in old ≡ total → total ≤ k.total → total_in new ≡ k.total
 total_now old new k total is told less = let h = total_last old k in let e : total_in new ≡ total_in (old ++ k ∷ []) = ap total_in is in omega arith
 
@@ -59,7 +59,7 @@ module _ (keep then_keep : Store → List Event → ℕ → Type 0) (brings : St
       pub runs_ok : failed ≡ false
       runs_ok = ∥∥₁_elim k (hlevel props) (λ x. ∥∥₁_elim q (hlevel props) (λ y. (ok_at x y).0))
 
-      -- it keeps all of the stage to which the list leads
+      -- the log keeps all commits of the stage to which the list leads
       pub keeps_now : (now : Stage) → ∥ Runs first (taken_of new) now ∥₁ → ∥ then_keep now.standing.store now.standing.events (commit_count now.standing.events) ∥₁
       keeps_now now r = ∥∥₁_rec ∥∥₁_prop
           (λ x. ∥∥₁_map₂ q r (λ y l. subst (λ (m : Stage). then_keep m.standing.store m.standing.events (commit_count m.standing.events)) (runs_once first y.after now (taken_of new) y.ends l)
@@ -84,7 +84,7 @@ module _ (keep then_keep : Store → List Event → ℕ → Type 0) (brings : St
       pub runs_err : failed ≡ true
       runs_err = ∥∥₁_elim k (hlevel props) (λ x. ∥∥₁_elim q (hlevel props) (λ y. (err_at x y).0))
 
--- a list that was not taken anew
+-- a log keeps the same of a list of which no more was taken
 pub kept_still : (keep : Store → List Event → ℕ → Type 0) (first : Stage) (failed now_failed : Bool) (total : ℕ) (old new : List LifeEntry) → taken_of new ≡ taken_of old
     → (now_failed ≡ false → failed ≡ false) → ∥ IsKept keep first failed total old ∥₁ → ∥ IsKept keep first now_failed total new ∥₁
 kept_still keep first failed now_failed total old new e f k = ∥∥₁_map k (λ x. record {
@@ -96,7 +96,7 @@ kept_still keep first failed now_failed total old new e f k = ∥∥₁_map k (�
   all = λ z. x.all (f z);
 })
 
--- the same by what a seat has seen
+-- the same facts, of what a seat has seen
 module _ (keep then_keep : Store → List Event → ℕ → Type 0) (brings : Store → List Event → List Event → Type 0) (total commits : ℕ) (v w : View LifeEntry Stage) (base : w.base ≡ v.base)
     {F : Type 0} (k : IsKeptAt keep false total v) (q : TakesBatch brings commits v w) (failed : Bool) (o : Result (Unit {0}) F) where
   pub less_at : (b : Stage) → v.base ≡ Some b → total ≤ commits
@@ -119,7 +119,7 @@ module _ (keep then_keep : Store → List Event → ℕ → Type 0) (brings : St
           (kept_err keep then_keep brings b total commits v.seen w.seen (k.kept b (sym base ∙ (sym b2 ∙ z))) (q.brought b (sym base ∙ (sym b2 ∙ z))) failed o f e h);
     }
 
--- the seat has a turn less
+-- after a turn the seat of the log has one turn less
 pub log_seat_on : (n m : ℕ) (v w : View LifeEntry Stage) → m + 1 ≤ n → LogTurn v w → IsLogSeat n v → IsLogSeat m w
 log_seat_on n m v w l t s = record { owner = t.owners ∙ s.owner; turns = (let a = t.turns in let b = s.turns in let z : m ≤ w.turns = omega arith in z) }
 
@@ -129,7 +129,7 @@ log_seat_on_two n m v w x l t u s = log_seat_on (m + 1) m w x (let z : m + 1 ≤
 pub kept_of : (keep : Store → List Event → ℕ → Type 0) (failed : Bool) (total : ℕ) (v : View LifeEntry Stage) → failed ≡ false → IsKeptAt keep failed total v → IsKeptAt keep false total v
 kept_of keep failed total v e k = subst (λ f. IsKeptAt keep f total v) e k
 
--- whatever becomes of a writing
+-- what the log keeps after a write, whether it succeeded or not
 pub kept_either : (keep then_keep : Store → List Event → ℕ → Type 0) (brings : Store → List Event → List Event → Type 0) (first : Stage) (total commits : ℕ) (old new : List LifeEntry) {F : Type 0}
     → (failed : Bool) → failed ≡ false → ∥ IsKept keep first failed total old ∥₁ → ∥ IsBrought brings first commits old new ∥₁ → (now_failed : Bool) (o : Result (Unit {0}) F)
     → ((X : Store) (H G : List Event) → keep X H (commit_count H) → brings X H G → OnOk o ((now_failed ≡ false) × then_keep X G (commit_count G)))

@@ -1,4 +1,4 @@
--- What a request, a taking and a failure of the log make of a life.
+-- How a request, a taking and a failure of the log extend a life.
 use Rattle.std.proofs.Common.{◌≡◌, Result, Ok, Err, ℕ, ◌+◌, ◌≤◌, Bool, true, false, List, [], ◌∷◌, ◌++◌, Option, refl, sym, ◌∙◌, ap, subst, arith}
 use mathlib.Core.Logic.{∥∥₁_map, ∥∥₁_map₂}
 use Rattle.teb_names.specs.declared.Reply.{Reply}
@@ -34,7 +34,7 @@ pub no_commits : (H : List Event) → H ≡ [] → commit_count H ≡ 0
 unfolding commit_count
 no_commits H e = ap commit_count e
 
--- a life that begins
+-- a new life
 pub life_first : (x : Standing) (es : List LifeEntry) (commits past : ℕ) (stopped : Bool) → es ≡ [] → x.events ≡ [] → commits ≡ 0 → past ≡ 0 → stopped ≡ false
     → IsLifeOf (first_stage x) (stage_of past stopped x) commits es
 life_first x es commits past stopped e none c p s = record {
@@ -57,7 +57,7 @@ module _ (first : Stage) (x y : Standing) (past : ℕ) (stopped : Bool) (commits
   abbrev now : Stage
   now = stage_of past stopped x
 
-  -- with a request
+  -- a life extended by a request
   pub life_asked : (by s : Session) (q : Request) (r : Reply) (short : Option ShortReply) (new : List LifeEntry) (count : ℕ) → stopped ≡ false → HasRoomFor x.events q → IsAnsweredBy x y s q r
       → IsShortOf r short
       → count ≡ commits + commits_in r → new ≡ es ++ Asked by s q short ∷ [] → IsLifeOf first (stage_of past stopped y) count new
@@ -81,7 +81,7 @@ module _ (first : Stage) (x y : Standing) (past : ℕ) (stopped : Bool) (commits
         );
   }
 
-  -- with a mark that leaves the stage
+  -- a life extended by a mark that leaves the stage
   pub life_taken : (new : List LifeEntry) → y ≡ x → new ≡ es ++ Taken ∷ [] → IsLifeOf first (stage_of past stopped y) commits new
   life_taken new e is = subst (λ (p : Standing × List LifeEntry). IsLifeOf first (stage_of past stopped p.0) commits p.1) (λ i. (sym e i, sym is i))
       record { leads = leads_on first now now es (Taken ∷ []) l.leads (now, refl, refl); counted = l.counted }
@@ -93,7 +93,7 @@ module _ (first : Stage) (x y : Standing) (past : ℕ) (stopped : Bool) (commits
   pub life_same : y ≡ x → IsLifeOf first (stage_of past stopped y) commits es
   life_same e = subst (λ (p : Standing). IsLifeOf first (stage_of past stopped p) commits es) (sym e) l
 
-  -- all that is taken waits no more
+  -- once all is taken, no commit waits
   pub waiting_none : (w : List Event → Type 0) (new : List LifeEntry) → y ≡ x → new ≡ es ++ Taken ∷ [] → w y.events → ∥ IsWaiting w first (stage_of past stopped y) new ∥₁
   waiting_none w new e is q = ∥∥₁_map l.leads (λ r. record {
     taken = stage_of past stopped y;
@@ -105,7 +105,7 @@ module _ (first : Stage) (x y : Standing) (past : ℕ) (stopped : Bool) (commits
     wait = q;
   })
 
-  -- what was taken is brought to the log
+  -- the commits that were taken are brought to the log
   pub brings_all : (w : List Event → Type 0) (brings : Store → List Event → List Event → Type 0) (new : List LifeEntry) → new ≡ es ++ Taken ∷ [] → ((H : List Event) → w H → brings x.store H x.events)
       → ∥ IsWaiting w first now es ∥₁ → ∥ IsBrought brings first commits es new ∥₁
   brings_all w brings new is b h = ∥∥₁_map₂ h l.leads (λ q r. record {
@@ -158,7 +158,7 @@ module _ (w v : List Event → Type 0) (goes_on : (H : List Event) → w H → v
     wait = goes_on k.taken.standing.events k.wait;
   })
 
--- what a result of the server makes of a life
+-- a life extended by a result of the server
 module _ (first : Stage) (x y : Standing) (past : ℕ) (stopped : Bool) (commits : ℕ) (es : List LifeEntry) (l : IsLifeOf first (stage_of past stopped x) commits es) (s : Session) (q : Request)
     (o : Result Reply Fault) (a : IsServed x y s q o) where
   pub served_life : (by : Session) (r : Reply) (short : Option ShortReply) (new : List LifeEntry) (count : ℕ) → stopped ≡ false → HasRoomFor x.events q → o ≡ Ok r → IsShortOf r short
@@ -178,14 +178,14 @@ module _ (w v : List Event → Type 0) (goes_on : (H : List Event) → w H → v
   pub unserved_waiting : (f : Fault) → o ≡ Err f → ∥ IsWaiting v first (stage_of past stopped y) es ∥₁
   unserved_waiting f e = waiting_same w v goes_on first x y past stopped es h (subst (IsServed x y s q) e a)
 
--- a server that was as at first
+-- a server that is as it was at first has a new life
 pub new_life : (x f : Standing) (es : List LifeEntry) → f ≡ x → es ≡ [] → x.events ≡ [] → IsLifeOf (first_stage f) (stage_of 0 false x) 0 es
 new_life x f es e none fresh = subst (λ (y : Standing). IsLifeOf (first_stage y) (stage_of 0 false x) 0 es) (sym e) (life_first x es 0 0 false none fresh refl refl refl)
 
 pub new_waiting : (w : List Event → Type 0) (x f : Standing) (es : List LifeEntry) → f ≡ x → es ≡ [] → x.events ≡ [] → ∥ w [] ∥₁ → ∥ IsWaiting w (first_stage f) (stage_of 0 false x) es ∥₁
 new_waiting w x f es e none fresh h = subst (λ (y : Standing). ∥ IsWaiting w (first_stage y) (stage_of 0 false x) es ∥₁) (sym e) (waiting_first w x es 0 false none fresh refl h)
 
--- an epoch that has ended
+-- an epoch has ended
 module _ (first : Stage) (x y : Standing) (past commits : ℕ) (stopped : Bool) (es new : List LifeEntry) (l : IsLifeOf first (stage_of past stopped x) commits es) (runs : stopped ≡ false)
     (begun : IsBegun x y) (is : new ≡ es ++ Turned ∷ []) where
   next : IsNextEpoch (stage_of past stopped x) (stage_of commits stopped y)
@@ -222,7 +222,7 @@ module _ (first : Stage) (x y : Standing) (past commits : ℕ) (stopped : Bool) 
     all = λ _. sym (no_commits y.events begun.events);
   })
 
--- an epoch that goes on, of which all was taken
+-- an epoch goes on, and all its entries were taken
 module _ (first : Stage) (x y : Standing) (past commits : ℕ) (stopped : Bool) (es : List LifeEntry) (l : IsLifeOf first (stage_of past stopped x) commits es) (same : y ≡ x)
     (taken : taken_of es ≡ es) where
   pub waiting_on : (w : List Event → Type 0) → ∥ w x.events ∥₁ → ∥ IsWaiting w first (stage_of past stopped y) es ∥₁
@@ -245,7 +245,7 @@ module _ (first : Stage) (x y : Standing) (past commits : ℕ) (stopped : Bool) 
     all = λ _. refl;
   })
 
--- a life all of which was taken
+-- if the last entry is a taking, the whole life was taken
 pub all_taken : (first now : Stage) (old new : List LifeEntry) → new ≡ old ++ Taken ∷ [] → LeadsTo first new now → (taken_of new ≡ new) × ∥ Runs first (taken_of new) now ∥₁
 all_taken first now old new is l = let e : taken_of new ≡ new = ap taken_of is ∙ (taken_all old Taken refl ∙ sym is) in (e, subst (λ (n : List LifeEntry). ∥ Runs first n now ∥₁) (sym e) l)
 

@@ -1,4 +1,4 @@
--- The sessions that there are.
+-- The session numbers.
 use Rattle.std.proofs.Common.{◌≡◌, ℕ, zero, suc, ◌≤◌, List, [], ◌∷◌, inl, inr, sym, subst, arith}
 use Rattle.std.proofs.lemmas.Bool.{cases_lt}
 use Rattle.teb_history.specs.Phases.{numbers}
@@ -14,6 +14,6 @@ numbers_has (suc n) x a b = let t = times_append x (numbers n) (suc n ∷ []) in
   | inr l ↦ (let h = numbers_has n x a l in omega arith)
 ]
 
--- the numbers from 1 to SESSIONS have each of them
+-- the numbers from 1 to SESSIONS contain each session number
 pub has_all : (ys : List ℕ) → ys ≡ numbers SESSIONS → HasAll SESSIONS ys
 has_all ys e = subst (λ (zs : List ℕ). HasAll SESSIONS zs) (sym e) (numbers_has SESSIONS)

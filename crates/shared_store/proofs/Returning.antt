@@ -1,4 +1,4 @@
--- A server that was asked nothing comes back where it stood.
+-- A server that was asked nothing comes back as it was.
 use Rattle.std.proofs.Common.{◌≡◌, ℕ, ◌≤◌, List, [], ◌∷◌, ◌++◌, All, refl, sym, ◌∙◌, ap, subst, arith}
 use base.Stored.{Coded-set}
 use mathlib.Core.Logic.{∥∥₁_map}
@@ -27,12 +27,12 @@ Stage-set = Coded-set the_row.coded
 none_leads : (first now : Stage) (es : List LifeEntry) → es ≡ [] → LeadsTo first es now → now ≡ first
 none_leads first now es none l = ∥∥₁_rec (Stage-set now first) (λ r. r) (subst (λ (n : List LifeEntry). LeadsTo first n now) none l)
 
--- who has all owners has seen all entries
+-- a seat that has all owners has seen all entries
 none_more : (n : ℕ) (os : List ℕ) (es : List LifeEntry) → HasAll n os → All (λ (e : LifeEntry). times (owner_of e) os ≡ 0) es → AreOwned owner_of n es → es ≡ []
 none_more n os [] has others owned = refl
 none_more n os (e ∷ es) has others owned = let o = owned 0 e (omega arith) in let h = has (owner_of e) o.0 o.1 in let z = others 0 e (omega arith) in absurd (omega arith)
 
--- it has seen nothing, though the log's seat was dealt out of it and joined again
+-- the first seat has seen nothing, even after the log's seat was dealt out of it and joined again
 seen_none : (b : Stage) (v r w x z : View LifeEntry Stage) → v ≡ first_view b 0 LOG_SEAT → r ≡ remaining LOG_SEAT LOG_TURNS v → w ≡ given LOG_SEAT LOG_TURNS v → x ≡ w → z ≡ both_views r x
     → z.seen ≡ []
 seen_none b v r w x z e f h same k =
@@ -57,7 +57,7 @@ module _ {V L B : Type 0} {g : Ghosts V L B} (n : ℕ) (v : View LifeEntry Stage
       let taken : k.taken ≡ first_of x = subst (λ (es : List LifeEntry). Runs (first_of x) (taken_of es) k.taken) none_in k.leads in
       subst (g.waits x.server) (ap (λ (s : Stage). s.standing.events) (taken ∙ is) ∙ fresh) k.wait)
 
--- the server at the end stands where the first one did, and no commit waits, if only the log's seat was dealt out of the first seat, and was joined again
+-- at the end the server is as it was at first and no commit waits, if only the log's seat was dealt and it was joined again
 pub comes_back : {V L B : Type 0} {g : Ghosts V L B} (b : Stage) (v r w u z : View LifeEntry Stage) (x : Hosted V L B g) (n : ℕ) (y : Standing) → n ≡ LOG_SEAT → v ≡ first_view b 0 LOG_SEAT
     → r ≡ remaining LOG_SEAT LOG_TURNS v → w ≡ given LOG_SEAT LOG_TURNS v → u ≡ w → z ≡ both_views r u → Ends entries_in owner_of note_in first_of z x → AreOwned owner_of n (entries_in x)
     → first_of x ≡ first_stage y → y.events ≡ [] → (g.standing x.server ≡ y) × ∥ g.waits x.server [] ∥₁

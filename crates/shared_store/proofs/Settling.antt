@@ -1,4 +1,4 @@
--- One turn at the log: what was taken, what is left, and what the seat knows then.
+-- One turn at the log: what was taken, what is put back, and what the seat knows then.
 use Rattle.std.proofs.Common.{◌≡◌, ℕ, ◌≤◌, List, [], ◌∷◌, ◌++◌, Some, sym, ◌∙◌, ap, arith}
 use Rattle.turn_lock.specs.declared.view.View.{View}
 use Rattle.turn_lock.specs.Counts.{times, Has}
@@ -14,13 +14,13 @@ use Rattle.shared_store.specs.Keeping.{place_of, tell_note, tells_in}
 use Rattle.shared_store.specs.Totals.{TellsBy, total_in, writer_of}
 use Rattle.shared_store.specs.Gaining.{TakesLogTurns}
 
--- more entries tell of no less
+-- more entries do not lower the total
 pub total_more : (xs ys : List Kept) → total_in xs ≤ total_in (xs ++ ys)
 total_more [] ys = omega arith
 total_more (x ∷ xs) ys = let h = total_more xs ys in omega arith
 
 module _ {V L B : Type 0} {g : Ghosts V L B} (s : ℕ) (v0 v1 : View Kept Place) (x0 x1 : Keeper V L B g) where
-  -- x0 was taken with the view v1, and x1 is to be left with it
+  -- x0 was taken with the view v1, and x1 is to be put back with it
   pub record TookLog : Type 0 where
     pub owner : v0.owners ≡ s ∷ []
     pub follows : Follows tells_in writer_of tell_note place_of v0 x0
@@ -31,7 +31,7 @@ module _ {V L B : Type 0} {g : Ghosts V L B} (s : ℕ) (v0 v1 : View Kept Place)
   own : (os : List ℕ) (n : ℕ) → os ≡ s ∷ [] → n ≡ s → Has os n
   own os n e k = let one = same_yes n s k in let z : times n os ≡ times n (s ∷ []) = ap (times n) e in omega arith
 
-  -- it may be left
+  -- x1 may be put back
   pub adds_log : TookLog → Adds tells_in writer_of tell_note place_of v1 x1
   adds_log t = record {
     has_base = t.enters.base ∙ (t.follows.has_base ∙ ap (λ (b : Place). Some b) (sym t.place));
@@ -42,7 +42,7 @@ module _ {V L B : Type 0} {g : Ghosts V L B} (s : ℕ) (v0 v1 : View Kept Place)
   }
 
   module _ (w : View Kept Place) (t : TookLog) (e : w ≡ departed (tells_in x1) v1) where
-    -- what the seat knows once it is left
+    -- what the seat knows once x1 is put back
     pub takes_log : TakesLogTurns 1 v0 w
     takes_log = record {
       base = ap (λ (v : View Kept Place). v.base) e ∙ t.enters.base;

@@ -1,4 +1,4 @@
--- One turn at the front: what was taken, what is left, and what the seat knows then.
+-- One turn at the front: what was taken, what is put back, and what the seat knows then.
 use Rattle.std.proofs.Common.{◌≡◌, ℕ, ◌+◌, Bool, List, [], ◌∷◌, ◌++◌, Some, All, append-nil, append_assoc, refl, sym, ◌∙◌, ap, subst, arith}
 use mathlib.Core.Logic.{∥∥₁_map}
 use Rattle.teb_names.specs.declared.Reply.{Reply as TheReply}
@@ -33,7 +33,7 @@ use Rattle.shared_store.proofs.Courses.{others_take_none, taken_behind}
 use Rattle.shared_store.proofs.Living.{is_legal}
 use Rattle.shared_store.proofs.Keeping.{kept_still}
 
--- what a session sees of what is added among entries of others
+-- what a session sees of added entries that follow entries of others
 module _ (s : Session) (v w : View LifeEntry Stage) (o : v.owners ≡ s.0 ∷ []) (between : List LifeEntry) (others : All (λ (e : LifeEntry). times (owner_of e) v.owners ≡ 0) between) where
   more_calls : (marks : List LifeEntry) → calls_of s.0 marks ≡ [] → calls_of s.0 (v.seen ++ (between ++ marks)) ≡ calls_of s.0 v.seen
   more_calls marks b = ap (calls_of s.0) (sym (append_assoc v.seen between marks))
@@ -80,7 +80,7 @@ module _ (s : Session) (v w : View LifeEntry Stage) (o : v.owners ≡ s.0 ∷ []
   sees b q (answer.Unasked f) a = sees_marks a
 
 module _ {V L B : Type 0} {g : Ghosts V L B} (s : ℕ) (v0 v1 : View LifeEntry Stage) (x0 x1 : Hosted V L B g) where
-  -- x0 was taken with the view v1, and x1 is to be left with it
+  -- x0 was taken with the view v1, and x1 is to be put back with it
   pub record Took : Type 0 where
     pub owner : v0.owners ≡ s ∷ []
     pub follows : Follows entries_in owner_of note_in first_of v0 x0
@@ -97,7 +97,7 @@ module _ {V L B : Type 0} {g : Ghosts V L B} (s : ℕ) (v0 v1 : View LifeEntry S
   own : (os : List ℕ) (n : ℕ) → os ≡ s ∷ [] → n ≡ s → Has os n
   own os n e k = let one = same_yes n s k in let z : times n os ≡ times n (s ∷ []) = ap (times n) e in omega arith
 
-  -- it may be left
+  -- x1 may be put back
   pub adds : Took → Adds entries_in owner_of note_in first_of v1 x1
   adds t = record {
     has_base = base_is t;
@@ -120,7 +120,7 @@ module _ {V L B : Type 0} {g : Ghosts V L B} (s : ℕ) (v0 v1 : View LifeEntry S
     turns : w.turns + 1 ≡ v0.turns
     turns = let k : w.turns ≡ v1.turns = ap (λ (v : View LifeEntry Stage). v.turns) e in let n = t.enters.turns in omega arith
 
-    -- what the seat knows once it is left
+    -- what the seat knows once x1 is put back
     pub takes : TakesTurns 1 v0 w
     takes = record {
       base = base;
@@ -136,7 +136,7 @@ module _ {V L B : Type 0} {g : Ghosts V L B} (s : ℕ) (v0 v1 : View LifeEntry S
     pub log_turn : LogTurn v0 w
     log_turn = record { base = base; owners = owners; turns = turns }
 
-    -- the base of the turn is where the life of its value began
+    -- the base of the turn is the stage with which the life of x0 began
     first_is : (b : Stage) → v0.base ≡ Some b → first_of x0 ≡ b
     first_is b h = Some_is (sym t.follows.has_base ∙ h)
 
@@ -152,7 +152,7 @@ module _ {V L B : Type 0} {g : Ghosts V L B} (s : ℕ) (v0 v1 : View LifeEntry S
     counts b answer.Ending h k = tt
     counts b (answer.Unasked f) h k = tt
 
--- a session that asked
+-- what a session that asked sees
 module _ {V L B : Type 0} {g : Ghosts V L B} (s : Session) (v0 v1 : View LifeEntry Stage) (x0 x1 : Hosted V L B g) (w : View LifeEntry Stage) (t : Took s.0 v0 v1 x0 x1)
     (e : w ≡ departed (entries_in x1) v1) where
   pub sees_answer : (b : Stage) (q : Request) (r : Answer) → v0.base ≡ Some b → turning.Adds (first_of x0) s q r (entries_in x0) (entries_in x1) → Sees b s q r v0 w
@@ -167,7 +167,7 @@ module _ {V L B : Type 0} {g : Ghosts V L B} (s : Session) (v0 v1 : View LifeEnt
 pub mark_grows : (mark : LifeEntry) (old new : List LifeEntry) → owner_of mark ≡ LOG_SEAT → new ≡ old ++ mark ∷ [] → GrowsBy LOG_SEAT old new
 mark_grows mark old new o is = record { more = mark ∷ []; is = is; mine = All_cons (λ (e : LifeEntry). owner_of e ≡ LOG_SEAT) mark [] o (All_none (λ (e : LifeEntry). owner_of e ≡ LOG_SEAT)) }
 
--- the log's seat
+-- a turn of the log's seat
 module _ {V L B : Type 0} {g : Ghosts V L B} (v0 v1 : View LifeEntry Stage) (x0 x1 : Hosted V L B g) (w : View LifeEntry Stage) (t : Took LOG_SEAT v0 v1 x0 x1) (e : w ≡ departed (entries_in x1) v1)
   where
     still : taken_of (entries_in x0) ≡ taken_of v0.seen
@@ -184,11 +184,11 @@ module _ {V L B : Type 0} {g : Ghosts V L B} (v0 v1 : View LifeEntry Stage) (x0 
     pub takes_none : entries_in x1 ≡ entries_in x0 ++ Stopped ∷ [] → TakesNone v0 w
     takes_none is = record { same = ap taken_of (seen LOG_SEAT v0 v1 x0 x1 w t e ∙ is) ∙ (taken_behind (entries_in x0) (Stopped ∷ []) refl ∙ still) }
 
-    -- what the log keeps of what the seat has seen, it keeps of the life that is found
+    -- what the log keeps of what the seat has seen, it keeps of the life in x0
     pub kept_found : (keep : Store → List Event → ℕ → Type 0) (failed : Bool) (total : ℕ) → IsKeptAt keep failed total v0 → ∥ IsKept keep (first_of x0) failed total (entries_in x0) ∥₁
     kept_found keep failed total k = kept_still keep (first_of x0) failed failed total v0.seen (entries_in x0) still (λ y. y) (k.kept (first_of x0) t.follows.has_base)
 
-    -- and what it keeps of the life that is left, it keeps of what the seat has seen then
+    -- what the log keeps of the life in x1, it keeps of what the seat has seen then
     pub kept_left : (keep : Store → List Event → ℕ → Type 0) (failed : Bool) (total : ℕ) → ∥ IsKept keep (first_of x0) failed total (entries_in x1) ∥₁ → IsKeptAt keep failed total w
     kept_left keep failed total k = record {
       kept = λ b z. subst (λ (p : Stage × List LifeEntry). ∥ IsKept keep p.0 failed total p.1 ∥₁)

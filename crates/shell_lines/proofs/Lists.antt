@@ -1,4 +1,4 @@
--- Names one after another, and rows that have names.
+-- Lists of names, written one by one, and rows whose tables have names.
 use Rattle.std.proofs.Common.{◌≡◌, ℕ, ◌+◌, ℤ, List, [], ◌∷◌, ◌++◌, drop, filter, Option, Some, None, slice_get, sym, ap, ◌∙◌, subst, append_assoc}
 use Rattle.std.specs.List.{flat_map}
 use Rattle.std.proofs.lemmas.List.{drop_more}
@@ -11,7 +11,7 @@ use Rattle.script_text.specs.Texts.{line_text}
 use Rattle.shell_lines.specs.Answers.{at_most, is_selected}
 use Rattle.shell_lines.specs.declared.line.RowRange.{RowRange}
 
--- one more name is written
+-- one more name was written
 pub names_more : (word : List ℕ) (names : List (List ℕ)) (i : ℕ) (name out new all : List ℕ) → slice_get names i ≡ Some name → new ≡ out ++ line_text (word ∷ name ∷ [])
     → out ++ flat_map (λ (n : List ℕ). line_text (word ∷ n ∷ [])) (drop i names) ≡ all → new ++ flat_map (λ (n : List ℕ). line_text (word ∷ n ∷ [])) (drop (i + 1) names) ≡ all
 names_more word names i name out new all read put so_far =
@@ -24,7 +24,7 @@ first_named : (names : NameBook) (count : Option ℕ) (rows : List (Cell × ℤ)
 first_named names None rows h = h
 first_named names (Some n) rows h = All-take (λ (r : Cell × ℤ). CellNamed names r.0) n rows h
 
--- the rows that are asked for have names
+-- the requested rows have names
 pub asked_named : (names : NameBook) (range : RowRange) (rows asked mid first : List (Cell × ℤ)) → asked ≡ filter (λ (r : Cell × ℤ). is_selected range r.0) rows → mid ≡ asked
     → first ≡ at_most range.count mid
     → RowsNamed names rows → RowsNamed names first

@@ -1,4 +1,4 @@
--- No element passes a test.
+-- If no element passes a test, a search finds none.
 use Rattle.std.proofs.Common.{◌≡◌, ℕ, ◌<◌, Bool, false, List, [], length, get_or, None, position, refl, arith}
 use Rattle.std.proofs.lemmas.Bool.{le-ltb}
 use Rattle.std.proofs.lemmas.List.Sums.{position_or_len_is}

@@ -1,4 +1,4 @@
--- A line that is read, and the text that it brings.
+-- A line that is read, and the text that it produces.
 use Rattle.std.proofs.Common.{◌≡◌, ℕ, ◌≤◌, List, [], ◌++◌, Option, Some, None, Result, Ok, Err, inl, inr, refl, ap, ◌∙◌, append_assoc, length}
 use Rattle.std.specs.Prelude.{IfOk, OnOk}
 use Rattle.std.specs.Io.KnownBytes.{prepend_known}

@@ -1,4 +1,4 @@
--- The sessions are ended, one after the other.
+-- The sessions are ended one after another.
 use Rattle.std.proofs.Common.{◌≡◌, ◌≢◌, ℕ, zero, suc, ◌+◌, ◌<◌, ◌≤◌, Bool, true, false, cond, List, [], ◌∷◌, ◌++◌, filter, map, reverse, Option, Some, None, Result, Ok, Err, IsTrue, is_some, inl, inr, refl, sym, ap, ◌∙◌, subst, arith, append_assoc}
 use Rattle.std.specs.Prelude.{◌⊎◌, IfOk, MatchResult, if◌then◌else◌}
 use Rattle.std.specs.List.{list_any}
@@ -30,7 +30,7 @@ use Rattle.shell_runner.specs.declared.step.After.TheVariants.{Next, Bad, Quit, 
 use Rattle.shell_runner.proofs.Going.{appends_front, not_done, quits, unmoved}
 use Rattle.shell_runner.proofs.Released.{released}
 
--- the end of a session that holds a transaction, as it is replied
+-- the End of a session that holds a transaction, once it has a reply, releases the session
 pub end_released : (s t : Stored) (session : Session) → IsReached s → IsTrue (is_some (held s.events session.0)) → HasAsked s session request.End t → IsReleased session.0 s.events t.events
 end_released s t session reached holds asked = subst (IsReleased session.0 s.events) (sym asked.events) (go (held s.events session.0) refl holds)
   where
@@ -50,7 +50,7 @@ pub reply_released : {E : Type 0} (s t : State) (session : Session) (text : List
 reply_released s t session text (Ok a) h reached holds = told_released s t session h.answer reached holds h.told
 reply_released s t session text (Err e) h reached holds = tt
 
--- the end of a session asks for no end of the run
+-- the End of a session does not stop the run, unless the store has stopped
 pub end_goes_on : (s t : State) (session : Session) (after : After) (now later : Option (List ℕ)) → Answers 1 s (line.Ask session request.End) after t now later → (after ≡ Stopped → ⊥)
     → GoesOnAfter after
 end_goes_on s t session Next now later a going = tt
@@ -58,7 +58,7 @@ end_goes_on s t session Bad now later a going = tt
 end_goes_on s t session Quit now later a going = absurd (let e = quits 1 s (line.Ask session request.End) a.text t a.answered in cc)
 end_goes_on s t session Stopped now later a going = absurd (going refl)
 
--- sessions 1 to k, and the next one
+-- the numbers up to k that pass, and the next number
 one_number : (p : ℕ → Bool) (k : ℕ) (b : Bool) → p (suc k) ≡ b → filter p (suc k ∷ []) ≡ cond b (suc k ∷ []) []
 one_number p k b e = rw e refl
 
@@ -81,7 +81,7 @@ more_numbers (suc m) k h = elim (cases_eq k (suc m)) [
   | inr ne ↦ let r = more_numbers m k (omega (arith, h, ne)) in (r.0 ++ suc m ∷ [], one_number_more m ∙ ap (λ (l : List ℕ). l ++ suc m ∷ []) r.1 ∙ append_assoc (numbers k) r.0 (suc m ∷ []))
 ]
 
--- the sessions that are left after k
+-- the holders up to k, followed by the remaining ones, are all holders
 left_over : (H : List Event) (k : ℕ) → k ≤ SESSIONS → (more : List ℕ) × (map end_of (filter (is_holder H) (numbers k)) ++ map end_of more ≡ map end_of (holders H))
 left_over H k h =
     let r = more_numbers SESSIONS k h in (
@@ -102,7 +102,7 @@ done_not_five : (status : ℕ) → IsDone status → status ≢ 5
 done_not_five status (inl e) p = omega (arith, e, p)
 done_not_five status (inr e) p = omega (arith, e, p)
 
--- sessions 1 to k were ended if they held a transaction
+-- each of the sessions 1 to k that held a transaction was ended
 pub record EndsSoFar {T : Type 0} (stored : T → Stored) (safe : T → T → Type 0) (mid : Shell T) (k : ℕ) (last : Shell T) (before now : Option (List ℕ)) : Type 0 where
   pub ends : List Step
   pub going : IsGoing ends
@@ -125,7 +125,7 @@ no_end_yet stored safe mid now = record {
 
 module _ {T : Type 0} (stored : T → Stored) (safe : T → T → Type 0) (mid : Shell T) (before : Option (List ℕ)) where
   module _ (k : ℕ) (s t : Shell T) (now later : Option (List ℕ)) (r : EndsSoFar stored safe mid k s before now) where
-    -- what the session held at first
+    -- the next session still holds what it held at first
     was : is_holder (stored mid.store).events (suc k) ≡ is_some (held (stored s.store).events (suc k))
     was = ap (λ (o : Option ℕ). is_some o) (sym (r.others (suc k) (omega arith)))
 
@@ -175,12 +175,12 @@ module _ {T : Type 0} (stored : T → Stored) (safe : T → T → Type 0) (mid :
       written = subst (λ (w : Option (List ℕ)). Appends before w (said r.ends)) (sym e.unwritten) r.written;
     }
 
-    -- the next session was ended, or it held none
+    -- the next session was ended, or it held no transaction
     pub passed : EndsIfHeld stored safe (record { 0 = suc k }) s t now later → IsReleased (suc k) (stored s.store).events (stored t.store).events → EndsSoFar stored safe mid (suc k) t before later
     passed (inl e) rel = one_more_end e rel
     passed (inr e) rel = no_end e rel
 
-  -- after the lines
+  -- the sessions are ended after the lines were read
   module _ (first : Shell T) (left start : Option (List ℕ)) (so_far : ℕ) (read : HasRead stored safe first left start so_far mid before) where
     whole : (now : Option (List ℕ)) (ends : List Step) → Appends before now (said ends) → Appends start now (said read.steps ++ said ends)
     whole now ends w = Appends-trans start before now (said read.steps) (said ends) read.written w
@@ -188,7 +188,7 @@ module _ {T : Type 0} (stored : T → Stored) (safe : T → T → Type 0) (mid :
     front : (now : Option (List ℕ)) (ends : List Step) → AppendsFront before now (said ends) → AppendsFront start now (said read.steps ++ said ends)
     front now ends w = appends_front start before now (said read.steps) (said ends) read.written w
 
-    -- the run ends at the end of a session
+    -- the run ends during the End of a session
     module _ (status : ℕ) (fails : IsFailure status) where
       cut_off : (ends : List Step) (last end : Shell T) (now : Option (List ℕ)) (k : ℕ) → k ≤ SESSIONS → IsRun stored safe mid ends last
           → map asked_by (reverse ends) ≡ map end_of (filter (is_holder (stored mid.store).events) (numbers k))
@@ -269,7 +269,7 @@ module _ {T : Type 0} (stored : T → Stored) (safe : T → T → Type 0) (mid :
       safely = unmoved safe s;
     }
 
--- the same, by the number of the session
+-- the same, for a session given by its number
 module _ {T : Type 0} (stored : T → Stored) (safe : T → T → Type 0) (mid : Shell T) (before : Option (List ℕ)) where
   pub passing : (number k : ℕ) (s t : Shell T) (now later : Option (List ℕ)) → number ≡ k + 1 → EndsSoFar stored safe mid k s before now → EndsIfHeld stored safe (record { 0 = number }) s t now later
       → IsReleased number (stored s.store).events (stored t.store).events
@@ -286,14 +286,14 @@ module _ {T : Type 0} (stored : T → Stored) (safe : T → T → Type 0) (mid :
       let is : number ≡ suc k = omega (arith, e) in
       stopped_at stored safe mid before first left start so_far read k s t now later status low r (subst (λ (n : ℕ). EndsAtEnd stored safe (record { 0 = n }) status s t now later) is ends)
 
--- what holds of an answer that was written
+-- if an answer was written, what holds of the answer holds of the result
 pub same_result : {E : Type 0} (W P : Type 0) (answered : Result After E) (r : Result After ℕ) → IfOk r (λ (a : After). (answered ≡ Ok a) × W) → IfOk answered (λ (a : After). P)
     → IfOk r (λ (a : After). P)
 same_result W P (Ok b) (Ok a) w h = h
 same_result W P (Err e) (Ok a) w h = absurd (let q = w.0 in cc)
 same_result W P answered (Err e) w h = tt
 
--- a session that is ended, or whose answer is the last
+-- a session is ended, or its answer stops the run
 module _ {T : Type 0} (stored : T → Stored) (safe : T → T → Type 0) (session : Session) (s t : Shell T) (now later : Option (List ℕ)) where
   pub ends_or_stops : (a : Result After ℕ) (d : Result (Unit {0}) ℕ) → IsTrue (is_some (held (stored s.store).events session.0))
       → MatchResult a (λ (after : After). Answers 1 (state_of stored s) (line.Ask session request.End) after (state_of stored t) now later)
@@ -322,7 +322,7 @@ module _ {T : Type 0} (stored : T → Stored) (safe : T → T → Type 0) (sessi
         safely = between;
       }
 
--- what holds of each answer holds of one that goes on
+-- what holds of each answer also holds if the run goes on
 pub on_result : (P : Type 0) (a : Result After ℕ) (d : Result (Unit {0}) ℕ) → MatchResult d (λ (u : Unit {0}). (b : After) × (a ≡ Ok b) × (b ≡ Stopped → ⊥))
     (λ (status : ℕ). (a ≡ Err status) ⊎ ((a ≡ Ok Stopped) × (status ≡ 15)))
     → IfOk a (λ (after : After). P) → IfOk d (λ (u : Unit {0}). P)
@@ -330,7 +330,7 @@ on_result P (Ok b) (Ok u) g h = h
 on_result P (Err e) (Ok u) g h = absurd (let q = g.1 in cc)
 on_result P a (Err status) g h = tt
 
--- a session that holds none
+-- a session that holds no transaction
 pub none_held : (H K : List Event) (s : Session) → K ≡ H → held_txn K s ≡ None → held H s.0 ≡ None
 none_held H K s same is = subst (λ (J : List Event). held J s.0 ≡ None) same (go (held K s.0) is)
   where

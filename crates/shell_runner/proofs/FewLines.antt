@@ -1,4 +1,4 @@
--- A text has few lines.
+-- A text of limited length has few lines.
 use Rattle.std.proofs.Common.{ℕ, ◌+◌, ◌<◌, ◌≤◌, ◌^◌, Bool, true, false, cond, List, [], ◌∷◌, length, map, ◌==◌, arith}
 use Rattle.std.specs.List.{onto_first, slice_split}
 use Rattle.std.specs.Str.Lines.{strip_carriage_return}
@@ -26,7 +26,7 @@ counted_few (x ∷ []) = go (length x == 0)
     go false = omega arith
 counted_few (x ∷ y ∷ more) = omega (arith, counted_few (y ∷ more))
 
--- a line of at most 65,536 bytes
+-- a text of at most 65,536 bytes has fewer than 2^32 lines
 pub few_lines : (text : List ℕ) → length text ≤ 65536 → length (lines_of text) < 2 ^ 32
 unfolding lines_of
 few_lines text short =

@@ -1,4 +1,4 @@
--- A run goes on by a step, or ends.
+-- A run goes on by one step, or ends.
 use Rattle.std.proofs.Common.{◌≡◌, ◌≢◌, ℕ, ◌+◌, ◌^◌, ◌≤◌, List, [], ◌∷◌, ◌++◌, length, take, Option, Some, None, Result, Ok, Err, IsTrue, is_some, inl, inr, refl, sym, ap, ◌∙◌, subst, arith, length-append}
 use Rattle.std.specs.Prelude.{◌⊎◌, Bool, true, false, if◌then◌else◌, nat_le, IfErr, IfOk, IfSome, IsErr, IsOk, MatchResult}
 use Rattle.std.proofs.lemmas.Result.{MatchResult-at_err, MatchResult-at_ok}
@@ -34,21 +34,21 @@ use Rattle.shell_runner.specs.declared.step.After.{After}
 use Rattle.shell_runner.specs.declared.step.After.TheVariants.{Bad, Next, Quit, Stopped}
 use Rattle.teb_names.specs.declared.rows.TheConstants.{MOST_ROWS}
 
--- a prefix of one text more
+-- a text was appended, then a prefix of another: a prefix of both was appended
 pub appends_front : (a b c : Option (List ℕ)) (text more : List ℕ) → Appends a b text → AppendsFront b c more → AppendsFront a c (text ++ more)
 appends_front a b c text more whole front =
     let n = front.0 in
     (length text + n, omega (arith, front.1, length-append text more), subst (Appends a c) (sym (take-append-add text more n)) (Appends-trans a b c text (take n more) whole front.2))
 
--- the store went on once
+-- the store moved once
 pub once : {T : Type 0} (safe : T → T → Type 0) (s t : Shell T) → IsSameOrSafe safe s t → IsSafely safe s t
 once safe s t h = record { mid = t; first = h; second = inl refl }
 
--- nothing was asked
+-- nothing was asked, and the state is unchanged
 pub unmoved : {T : Type 0} (safe : T → T → Type 0) (s : Shell T) → IsSafely safe s s
 unmoved safe s = record { mid = s; first = inl refl; second = inl refl }
 
--- the end of a session is asked at once
+-- a shown reply to End answers the line that asks for it
 pub end_asked : (n : ℕ) (s t : State) (session : Session) (text : List ℕ) (after : After) → ShowsReply s session request.End text after t → IsAnswered n s (Ask session request.End) text after t
 end_asked n s t session text after h = inl (record { goes_on = λ b. b.begins; replied = h })
 
@@ -57,7 +57,7 @@ pub ends_answered : {E : Type 0} (n : ℕ) (s t : State) (session : Session) (it
 ends_answered n s t session items text (Ok a) e h = subst (λ (x : List ℕ). IsAnswered n s (Ask session request.End) x a t) (sym e) (end_asked n s t session items a h)
 ends_answered n s t session items text (Err x) e h = tt
 
--- the same text by another name
+-- an answer stated for an equal text
 pub answered_by : {E : Type 0} (n : ℕ) (s t : State) (l : ShellLine) (items text : List ℕ) (answered : Result After E) → text ≡ items
     → IfOk answered (λ (after : After). IsAnswered n s l items after t)
     → IfOk answered (λ (after : After). IsAnswered n s l text after t)
@@ -69,7 +69,7 @@ not_quit reply.Later p = absurd (cc)
 not_quit reply.Full p = absurd (cc)
 not_quit reply.Unsure p = absurd (cc)
 
--- only `.quit` asks for the end
+-- only `.quit` ends the run
 pub quits : (n : ℕ) (s : State) (l : ShellLine) (text : List ℕ) (t : State) → IsAnswered n s l text Quit t → l ≡ line.Quit
 quits n s line.Nothing text t h = absurd (let p = h.0.1 in cc)
 quits n s (line.Rows range) text t h = absurd (let p = h.0.1 in cc)
@@ -103,7 +103,7 @@ quits n s line.Checkpoint text t (inr f) = absurd (let p = f.1.stopped in cc)
 is_not : (status j k : ℕ) → status ≡ j → j ≢ k → status ≡ k → ⊥
 is_not status j k e other p = other (sym e ∙ p)
 
--- a line that is not read has no other status
+-- a line that cannot be read ends the run with exit code 3, 5 or 8, and no other
 pub not_of : (status k : ℕ) → IsUnread status → 3 ≢ k → 5 ≢ k → 8 ≢ k → status ≢ k
 not_of status k (inl e) a b c = is_not status 3 k e a
 not_of status k (inr (inl e)) a b c = is_not status 5 k e b
@@ -118,7 +118,7 @@ pub not_done : (status : ℕ) → IsFailure status → IsDone status → ⊥
 not_done status fails (inl p) = failure_not status 0 fails (omega arith) (omega arith) (omega arith) (omega arith) (omega arith) p
 not_done status fails (inr p) = failure_not status 7 fails (omega arith) (omega arith) (omega arith) (omega arith) (omega arith) p
 
--- an answer that is written, whole or in part, or not for want of memory
+-- an answer is written in whole or in part, or not at all because memory ran out
 pub writes : {E : Type 0} (n : ℕ) (s t : State) (asks : ShellLine) (text : List ℕ) (answered : Result After E) (r : Result After ℕ) (now later : Option (List ℕ))
     → IfOk answered (λ (after : After). IsAnswered n s asks text after t)
     → IfOk r (λ (a : After). (answered ≡ Ok a) × Appends now later text)
@@ -136,9 +136,9 @@ writes n s t asks text (Err e) (Err status) now later h w (inr p) = absurd (not_
     not_ok : {E : Type 0} (e : E) → IsOk {T = After} (Err e) → ⊥
     not_ok e p = cc
 
--- with another status neither all was answered, nor is anything left to be told
+-- one step of a run: the run goes on, or it ends with a failure
 module _ {T : Type 0} (stored : T → Stored) (safe : T → T → Type 0) (first : Shell T) (left before : Option (List ℕ)) where
-  -- a run that ends amid its lines
+  -- the run ends while its lines are being answered
   pub amid : (lines : List Step) (mid end : Shell T) (rest now : Option (List ℕ)) (status : ℕ) → IsRun stored safe first lines mid → IsTaken left rest lines → IsFailure status
       → ((status ≢ 4) × Appends before now (said lines)) ⊎ ((status ≡ 4) × AppendsFront before now (said lines)) → (status ≡ 15 → HasStopped lines) → (status ≡ 5 → IfSome rest IsTooLong)
       → (status ≢ 8 → end ≡ mid) → IsSafely safe mid end
@@ -167,14 +167,14 @@ module _ {T : Type 0} (stored : T → Stored) (safe : T → T → Type 0) (first
     safely = safely;
   }
 
-  -- a run that ends before its next line
+  -- the run ends before its next line
   pub ended_before : (n so_far : ℕ) (s : Shell T) (rest now : Option (List ℕ)) (status : ℕ) → HasRun stored safe first left before n so_far s rest now → IsUnread status
       → (status ≡ 5 → IfSome rest IsTooLong) → HasEnded stored safe first left before status s now
   ended_before n so_far s rest now status r why long =
       amid r.steps s s rest now status r.run r.taken (inl why) (inl (not_of status 4 why (omega arith) (omega arith) (omega arith), r.written))
       (λ e. absurd (not_of status 15 why (omega arith) (omega arith) (omega arith) e)) long (λ _. refl) (unmoved safe s)
 
-  -- a run at the end of its input
+  -- the run is at the end of its input
   pub read_out : (n so_far : ℕ) (s : Shell T) (rest now : Option (List ℕ)) (r : HasRun stored safe first left before n so_far s rest now) → IsAtEnd rest ⊎ (2 ^ 64 ≤ n + 2)
       → HasRead stored safe first left before so_far s now
   read_out n so_far s rest now r end = record {
@@ -209,7 +209,7 @@ module _ {T : Type 0} (stored : T → Stored) (safe : T → T → Type 0) (first
     more_taken : (text : List ℕ) (after : After) → IsTaken left rest (one_more text after ∷ r.steps)
     more_taken text after = (mid, r.taken, next.takes)
 
-    -- it is answered, and its text is written
+    -- the line is answered, and its text is written
     module _ (after : After) (a : Answers (n + 1) (state_of stored s) asks after (state_of stored t) now later) where
       more_written : Appends before later (said (one_more a.text after ∷ r.steps))
       more_written = Appends-trans before now later (said r.steps) a.text r.written a.written
@@ -226,7 +226,7 @@ module _ {T : Type 0} (stored : T → Stored) (safe : T → T → Type 0) (first
         written = more_written;
       }
 
-      -- it is the last one
+      -- the line is the last one
       pub last_one : so_far ≡ status_of (one_more a.text after ∷ r.steps) → asks ≡ line.Quit → HasRead stored safe first left before so_far t later
       last_one is quit = record {
         steps = one_more a.text after ∷ r.steps;
@@ -238,14 +238,14 @@ module _ {T : Type 0} (stored : T → Stored) (safe : T → T → Type 0) (first
         written = more_written;
       }
 
-    -- the disk failed at it
+    -- the disk failed at the line
     pub failed : (status : ℕ) → status ≡ 15 → Answers (n + 1) (state_of stored s) asks Stopped (state_of stored t) now later → HasEnded stored safe first left before status t later
     failed status e a =
         amid (one_more a.text Stopped ∷ r.steps) t t rest later status (more_run a.text Stopped a.answered) (more_taken a.text Stopped) (inr (inr e))
         (inl ((λ p. absurd (omega (arith, e, p))), more_written Stopped a))
         (λ _. refl) (λ p. absurd (omega (arith, e, p))) (λ _. refl) (unmoved safe t)
 
-    -- its text is not written whole, or memory ran out
+    -- the text of the line is not written in whole, or memory ran out
     pub broken_off : (status : ℕ) → StopsAt (n + 1) (state_of stored s) asks status (state_of stored t) now later → HasEnded stored safe first left before status t later
     broken_off status (inl (e, a)) =
         amid (one_more a.text a.after ∷ r.steps) t t rest later status (more_run a.text a.after a.answered) (more_taken a.text a.after) (inr (inl e))
@@ -254,7 +254,7 @@ module _ {T : Type 0} (stored : T → Stored) (safe : T → T → Type 0) (first
         amid r.steps s t mid later status r.run r.taken (inl (inr (inr e))) (inl ((λ p. absurd (omega (arith, e, p))), Appends-kept before now later (said r.steps) r.written kept))
         (λ p. absurd (omega (arith, e, p))) (λ p. absurd (omega (arith, e, p))) (λ p. absurd (p e)) between
 
-    -- it was answered, and nothing is said yet of what follows
+    -- the line was answered; what follows depends on the flow
     flow_on : (flow : Flow) → Answers (n + 1) (state_of stored s) asks (after_of flow) (state_of stored t) now later → GoesOn stored safe first left before (n + 1) so_far flow t rest later
     flow_on flow.Next a = on Next a so_far tt r.status
     flow_on flow.Bad a = on Bad a 7 tt refl
@@ -274,7 +274,7 @@ module _ {T : Type 0} (stored : T → Stored) (safe : T → T → Type 0) (first
         (MatchResult-at_ok (λ (after : After). Answers (n + 1) (state_of stored s) asks after (state_of stored t) now later)
         (λ (status : ℕ). StopsAt (n + 1) (state_of stored s) asks status (state_of stored t) now later) Stopped g.0 m)
 
-  -- a line was read, answered and written: the run goes on, or ends
+  -- a line was read, answered and written, and the run goes on or ends
   pub flowed : (number n so_far : ℕ) (s t : Shell T) (names : NameBook) (asks : ShellLine) (mid rest now later : Option (List ℕ)) (a : Result After ℕ) (f : Result Flow ℕ) → number ≡ n + 1
       → HasRun stored safe first left before n so_far s mid now
       → names ≡ (stored s.store).names → AsksNext names s.format asks mid rest
@@ -297,7 +297,7 @@ held_some H K s t same is = subst (λ (J : List Event). IsTrue (is_some (held J 
     go None e = absurd (let f : Some t ≡ txn_of None = is ∙ ap txn_of e in cc)
     go (Some n) e = rw e refl
 
--- no step yet
+-- a run without steps
 pub begun : {T : Type 0} (stored : T → Stored) (safe : T → T → Type 0) (s : Shell T) (left now : Option (List ℕ)) → HasRun stored safe s left now 0 0 s (ahead [] left) now
 begun stored safe s left now = record {
   steps = [];

@@ -1,4 +1,4 @@
--- The end of a session: it holds nothing any more, and all others hold what they held.
+-- After the End of a session it holds no transaction, and all other sessions hold what they held.
 use Rattle.std.proofs.Common.{◌≡◌, ◌≢◌, ℕ, Bool, true, false, cond, ◌&&◌, ◌||◌, eqb, leb, List, [], ◌∷◌, find, Some, None, refl, sym, ◌∙◌, ap, subst, inl, inr, arith, eqb-true, unwrap_or}
 use Rattle.std.proofs.lemmas.Bool.{and_from, and_parts, both_ways, cases_eq, false_from_ne_true, le-leb}
 use Rattle.teb_names.specs.declared.TheConstants.{SESSIONS}
@@ -23,7 +23,7 @@ use Rattle.teb_laws.proofs.Sessions.{holds_one, session_range}
 use Rattle.teb_laws.proofs.Sound.{tree_facts}
 use Rattle.shell_runner.specs.Holders.{IsReleased}
 
--- tests that agree find the same
+-- tests that agree find the same number
 find_same : (p q : ℕ → Bool) (us : List ℕ) → ((u : ℕ) → p u ≡ q u) → find p us ≡ find q us
 find_same p q [] e = refl
 find_same p q (u ∷ us) e = rw (e u, find_same p q us e) refl
@@ -32,14 +32,14 @@ find_nobody : (p : ℕ → Bool) (us : List ℕ) → ((u : ℕ) → p u ≡ fals
 find_nobody p [] e = refl
 find_nobody p (u ∷ us) e = rw (e u, find_nobody p us e) refl
 
--- two transactions that one session holds are one
+-- a session holds at most one transaction
 same_holder : (S : Setup) (H : List Event) (s t v : ℕ) → Lawful S H → Holds H s t ≡ true → Holds H s v ≡ true → t ≡ v
 same_holder S H s t v l a b =
     let p = and_parts _ _ a in
     let q = and_parts _ _ b in
     holds_one S H t v l (held_began S H s t l a) (held_began S H s v l b) p.1 q.1 (eqb-true _ _ p.0 ∙ sym (eqb-true _ _ q.0))
 
--- s held t, and nobody holds t any more; all else is held as before
+-- s held t and no session holds t any more: everything else is held as before
 module _ (S : Setup) (H K : List Event) (s t : ℕ) (l : Lawful S H) (h : held H s ≡ Some t) (count : begun_count K ≡ begun_count H) (gone : (n : ℕ) → Holds K n t ≡ false)
     (kept : (n v : ℕ) → t ≢ v → Holds K n v ≡ Holds H n v) where
   is_held : Holds H s t ≡ true
@@ -70,7 +70,7 @@ module _ (S : Setup) (H K : List Event) (s t : ℕ) (l : Lawful S H) (h : held H
 good : (X : Store) (H : List Event) → IsSound X.setup → (asked : _) → H ≡ reached X asked → Good X.setup H
 good X H sound asked e = subst (Good X.setup) (sym e) (run_good X (tree_facts X.setup sound) sound.profiles asked [] (empty_good X.setup))
 
--- a session that holds a transaction is one of 1 to SESSIONS
+-- a session that holds a transaction has a number from 1 to SESSIONS
 holder_range : (S : Setup) (H : List Event) (s t : ℕ) → Lawful S H → held H s ≡ Some t → leb 1 s && leb s SESSIONS ≡ true
 holder_range S H s t l h =
     let holds : Holds H s t ≡ true = held_holds H s t h in
@@ -78,13 +78,13 @@ holder_range S H s t l h =
     let r = session_range S H t l (held_began S H s t l holds) in
     and_from _ _ (le-leb 1 s (omega (arith, of, r.0))) (le-leb s SESSIONS (omega (arith, of, r.1)))
 
--- the end of a session that holds t
+-- the answer to the End of a session that holds t
 ended : (X : Store) (H : List Event) (s : Session) (t : ℕ) → Lawful X.setup H → held H s.0 ≡ Some t
     → answer X H s request.End ≡ cond (aborted H t) (Aborted (unwrap_or (cause_of H t) Asked), Told (txn t) ∷ H) (Aborted Ended, abort H t Ended)
 unfolding answer answer_of
 ended X H s t l h = rw (holder_range X.setup H s.0 t l h, h) refl
 
--- a session that holds a transaction holds none after its end, and all others hold what they held
+-- after its End a session holds no transaction, and all others hold what they held
 pub released : (X : Store) (H : List Event) (s : Session) (t : ℕ) → IsSound X.setup → (asked : List (Session × Request)) → H ≡ reached X asked → held H s.0 ≡ Some t
     → IsReleased s.0 H (answer X H s request.End).1
 released X H s t sound asked leads h =

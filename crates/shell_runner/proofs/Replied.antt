@@ -1,4 +1,4 @@
--- What stays of a store that is asked, and of one whose next epoch begins.
+-- What is unchanged in a store that was asked, and in one whose next epoch has begun.
 use Rattle.std.proofs.Common.{◌≡◌, ℕ, List, Ok, length, refl, sym, ap, ◌∙◌, subst}
 use Rattle.teb_names.specs.declared.Session.{Session}
 use Rattle.teb_names.specs.declared.Request.{Request}
@@ -34,7 +34,7 @@ of_tree_along tree s t same of = record {
   nodes = of.nodes;
 }
 
--- what is asked is still of the tree
+-- a store that has replied is still of the same tree
 pub replied_of_tree : (tree : List ℕ) (s : Stored) (session : Session) (request : Request) (a : StoreReply) (t : Stored) → IsOfTree tree s → IsReplied s session request a t → IsOfTree tree t
 replied_of_tree tree s session request a t of h = of_tree_along tree s t (same_tree s session request a t h) of
 
@@ -48,7 +48,7 @@ told s t session request Later h e f w = absurd h
 told s t session request Full h e f w = (h, e, f, w)
 told s t session request Unsure h e f w = (h, e, f, w)
 
--- the next epoch has begun under the same tree
+-- the next epoch has begun with the same tree
 module _ (tree : List ℕ) (s t : Stored) (m : SetupView) (of : IsOfTree tree s) (same : of.view ≡ m) (n : IsNext m s t) where
   pub turned : (e f : ℕ) (format : ℕ) (waits : Waits) → IsDrained s.events → f ≡ next_number e → HasTurned (record { stored = s; epoch = e; format = format; waits = waits })
       (record { stored = t; epoch = f; format = format; waits = waits })

@@ -1,4 +1,4 @@
--- A tree text that is shown, or not.
+-- A tree text is shown, or it is not.
 use Rattle.std.proofs.Common.{◌≡◌, ℕ, ◌<◌, ◌≤◌, Bool, true, false, ℤ, List, length, Result, Ok, Err, ap, ◌∙◌, sym, refl, subst}
 use Rattle.std.specs.Prelude.{IfOk, nat_le, if◌then◌else◌}
 use Rattle.std.proofs.lemmas.Bool.{le-leb, lt-leb}

@@ -1,4 +1,4 @@
--- What becomes of a request, and of the epoch before it.
+-- The outcome of a request, and of the epoch before it.
 use Rattle.std.proofs.Common.{◌≡◌, ℕ, List, Result, Ok, Err, inl, inr, ap, ◌∙◌}
 use Rattle.std.specs.Prelude.{◌⊎◌, IfOk}
 use Rattle.teb_names.specs.declared.Session.{Session}
@@ -14,7 +14,7 @@ use Rattle.shell_runner.specs.Answers.{BeginsAtEnd, HasTurned, IsAsked, ShowsRep
 use Rattle.shell_runner.specs.declared.step.After.{After}
 use Rattle.shell_runner.specs.declared.step.After.TheVariants.{Next}
 
--- an error that is somebody's
+-- the error names an unfinished transaction or a session that was not told of an abort
 abbrev pub IsSomebodys : TurnError → Type 0
 IsSomebodys (turn.Unfinished t) = Unit {0}
 IsSomebodys (turn.Untold s) = Unit {0}

@@ -16,7 +16,7 @@ numbered_length : (n : ℕ) (xs : List Asking) → length (numbered n xs) ≡ le
 numbered_length n [] = refl
 numbered_length n (x ∷ xs) = ap suc (numbered_length (n + 1) xs)
 
--- one request more of a session
+-- one more request of a session
 pub asked_more : (n : ℕ) (s : Session) (rs : List Request) (i : ℕ) (d : Request) → i < length rs → numbered n (asked_by s (take (i + 1) rs)) ≡ numbered n (asked_by s (take i rs))
     ++ record { number = n + i; session = s; request = get_or rs i d } ∷ []
 asked_more n s rs i d h =
@@ -29,7 +29,7 @@ range_more a zero = let e : a + 0 ≡ a = omega arith in rw e refl
 range_more a (suc n) = let e : suc n + 1 ≡ suc (n + 1) = omega arith in let f : a + suc n ≡ a + 1 + n = omega arith in
     rw (e, f) (ap (λ (l : List ℕ). a ∷ l) (range_more (a + 1) n))
 
--- one transaction more
+-- one more transaction
 pub loaded_more : (number i : ℕ) → loaded_lines number (i + 1) ≡ loaded_lines number i ++ numbered (length (loaded_lines number i) + 1) (askings_at number i)
 unfolding loaded_lines
 loaded_more number i =
@@ -59,7 +59,7 @@ few_lines n s x i =
     let y : length (asked_by s (requests_from x i)) ≡ length (requests_from x i) = length-map (requests_from x i) (λ (r : Request). (s, r)) in
     let w : length (requests_from x i) ≤ 5 = few_requests (drawn_from x % 4) i (1 + drawn_from (next_state x) % 16) (1 + drawn_from (next_state (next_state x)) % 16) in omega arith
 
--- three draws more
+-- three more draws
 pub state_more : (number i : ℕ) → next_state (next_state (next_state (state number (3 * i)))) ≡ state number (3 * (i + 1))
 unfolding state
 state_more number i = let e : 3 * (i + 1) ≡ suc (suc (suc (3 * i))) = omega arith in rw e refl

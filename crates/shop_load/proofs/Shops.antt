@@ -1,4 +1,4 @@
--- The setup of the shop is whole, and its nodes are a tree.
+-- The setup of the shop is whole, and its nodes form a tree.
 use Rattle.std.proofs.Common.{◌≡◌, ℕ, zero, suc, ◌+◌, ◌<◌, ◌≤◌, List, [], ◌∷◌, ◌++◌, length, map, ℤ, pos, refl, subst, arith, None, Err}
 use Rattle.std.specs.Prelude.{All}
 use Rattle.std.specs.List.{IsDistinct}
@@ -24,7 +24,7 @@ no_fault : tree_fault shop_nodes 4 ≡ None
 unfolding tree_fault homes below way climb
 no_fault = refl
 
--- what is so of each node
+-- the properties of each node
 abbrev IsType : ℕ → Type 0
 IsType k = k < 4
 
@@ -87,7 +87,7 @@ pub filled_none : (table : ℕ) (value : ℤ) → filled table value 0 ≡ []
 unfolding numbers
 filled_none table value = refl
 
--- one key more
+-- one more key
 pub filled_more : (table : ℕ) (value : ℤ) (last : ℕ) → filled table value (last + 1) ≡ filled table value last ++ (record { table = record { 0 = table }; key = last + 1 }, value) ∷ []
 unfolding numbers
 filled_more table value last =
@@ -112,7 +112,7 @@ shop_whole = record {
 pub ascends : (rows : List (Cell × ℤ)) → rows ≡ shop_rows → IsAscending rows
 ascends rows e = rw e rows_ascend
 
--- rows of nodes that are the shop's
+-- rows of nodes that are those of the shop
 unmapped : {X Y : Type 0} (P : Y → Type 0) (f : X → Y) (xs : List X) → All P (map f xs) → All (λ x. P (f x)) xs
 unmapped P f xs all k d h = subst P (get_or-map f xs k d (f d) h) (all k (f d) (rw length-map h))
 
@@ -132,13 +132,13 @@ module _ (rows : List Row) (are : rows_of rows ≡ shop_nodes) where
   pub parts_of : All (λ (r : Row). (1 ≤ r.of) × (r.of ≤ 16) × (r.part < r.of)) rows
   parts_of = λ k d h. ((fit k d h).2, (fit k d h).3, (fit k d h).4)
 
--- they are a tree, so that only memory can be wanting
+-- they form a tree, so the only error is out of memory
 pub no_error : (rows : List Row) (e : TreeError) → rows_of rows ≡ shop_nodes → Answers (Err e) (rows_of rows) 4 → e ≡ OutOfMemory
 no_error rows (Shape n w) are a = absurd (let z : tree_fault (rows_of rows) 4 ≡ None = rw are no_fault in cc)
 no_error rows (Misplaced n w) are a = absurd (let z : tree_fault (rows_of rows) 4 ≡ None = rw are no_fault in cc)
 no_error rows OutOfMemory are a = refl
 
--- the parts make the shop
+-- the parts make up the shop
 pub whole_of : (tables types nodes : List (List ℕ)) (profiles : List (List (List ℕ))) (tree : Grown) (rows : List (Cell × ℤ)) → tables ≡ shop.tables → types ≡ shop.types → nodes ≡ shop.nodes
     → profiles ≡ shop.profiles → tree ≡ shop.tree → rows ≡ shop.rows
     → IsWhole (record { tables = tables; types = types; nodes = nodes; profiles = profiles; tree = tree; rows = rows; format = 1 })

@@ -1,4 +1,4 @@
--- Counts of transactions and sums of rows, one more at a time.
+-- Counts of transactions and sums of rows, increased by one.
 use Rattle.std.proofs.Common.{◌≡◌, ℕ, zero, suc, ◌+◌, ◌<◌, ◌≤◌, Bool, true, false, cond, List, [], ◌∷◌, length, filter, get_or, drop, ℤ, ◌+ℤ◌, refl, ◌∙◌, ap, subst, arith, length-append}
 use Rattle.std.specs.Int.{from_bool}
 use Rattle.std.proofs.lemmas.List.Elements.{filter-append}
@@ -18,7 +18,7 @@ one_counted p n = go (p n)
     go true = refl
     go false = refl
 
--- one transaction more
+-- one more transaction
 pub counted_more : (p : ℕ → Bool) (n : ℕ) → length (filter p (numbers (n + 1))) ≡ length (filter p (numbers n)) + cond (p (n + 1)) 1 0
 unfolding numbers
 counted_more p n =
@@ -35,7 +35,7 @@ pub at_most_one : (b : Bool) → cond b 1 0 ≤ 1
 at_most_one true = omega arith
 at_most_one false = omega arith
 
--- no more of them than there are
+-- the count is at most the number tested
 pub counted_few : (p : ℕ → Bool) (n : ℕ) → length (filter p (numbers n)) ≤ n
 counted_few p zero = let z = none_counted p in omega arith
 counted_few p (suc n) =
@@ -45,6 +45,6 @@ counted_few p (suc n) =
     (λ (k : ℕ). length (filter p (numbers k)) ≡ length (filter p (numbers n)) + cond (p k) 1 0) e (counted_more p n) in
     let w = at_most_one (p (suc n)) in omega arith
 
--- what the rows from one on add
+-- what the rows from an index on add
 pub sum_step : (table i : ℕ) (rows : List (Cell × ℤ)) (d : Cell × ℤ) → i < length rows → sum_in table (drop i rows) ≡ added table (get_or rows i d) +ℤ sum_in table (drop (i + 1) rows)
 sum_step table i rows d h = let e : i + 1 ≡ suc i = omega arith in rw e (ap (sum_in table) (drop-cons rows i d h))

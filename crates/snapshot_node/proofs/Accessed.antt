@@ -1,4 +1,4 @@
--- What a transaction has accessed, and the steps of a walk along its accesses.
+-- The accesses of a transaction, and the steps of a walk along them.
 use Rattle.std.proofs.Common.{◌≡◌, ℕ, ℤ, Bool, true, false, cond, ◌||◌, List, [], ◌∷◌, is_some, Option, Some, None, refl, sym, ◌∙◌, subst}
 use Rattle.std.specs.Borrow.{Bor}
 use Rattle.std.specs.List.{list_any}
@@ -41,26 +41,26 @@ puts_in x (_ ∷ es) = puts_in x es
 abbrev pub accesses_of : List Event → ℕ → List Touched
 accesses_of H t = touched_in (own_events H t)
 
--- among them are those of each cell that it has read, and of each that it has put
+-- the accesses of t include a read of each cell that it has read, and a put of each cell that it has put
 pub reads_own : (H : List Event) (t : ℕ) (x : Cell) → any_reads x (accesses_of H t) ≡ got H t x
 reads_own H t x = reads_in x (own_events H t) ∙ sym (got_own H t x)
 
 pub puts_own : (H : List Event) (t : ℕ) (x : Cell) → any_puts x (accesses_of H t) ≡ wrote H t x
 puts_own H t x = puts_in x (own_events H t) ∙ sym (wrote_own H t x)
 
--- the next access is a read, and those that it lends are the writers of the cell
+-- the next access is a read, and the list that it lends is the writers of the cell
 pub record ReadsNext (a : Asked) (s t : Walk) (ts : Bor (List Txn)) : Type 0 where
   pub cell : Cell
   pub left : s.left ≡ Reads cell ∷ t.left
   pub those : ts.now ≡ there a writers_in cell
 
--- the next access is a put, and those that it lends are the readers of the cell
+-- the next access is a put, and the list that it lends is the readers of the cell
 pub record PutsNext (a : Asked) (s t : Walk) (ts : Bor (List Txn)) : Type 0 where
   pub cell : Cell
   pub left : s.left ≡ Puts cell ∷ t.left
   pub those : ts.now ≡ there a readers_in cell
 
--- where a walk has ended, nothing is left
+-- at the end of a walk, nothing is left
 pub walk_end : (s t : Walk) → Steps s None t → s.left ≡ []
 walk_end s t h = h.1.0
 
@@ -74,7 +74,7 @@ module _ (a : Asked) where
   abbrev n : ℕ
   n = a.register.now.node.0
 
-  -- a walk in the control's own book
+  -- a walk along the control's own book
   module _ (s t : Walk) (own : s.book ≡ a.register.now.accesses) (i : Access) (steps : Steps s (Some i) t) where
     pub book_next : t.book ≡ a.register.now.accesses
     book_next = steps.0 ∙ own
@@ -106,7 +106,7 @@ module _ (a : Asked) where
         }
         go (Reads x) l h = absurd h
 
-    -- what is no read is a put, and what is no put is a read
+    -- an access that is not a read is a put, and one that is not a put is a read
     pub puts_else : ((ts : Bor (List Txn)) → i ≡ access.Read ts → ⊥) → (x : Cell) × (s.left ≡ Puts x ∷ t.left)
     puts_else none = go i none steps.1.0 steps.1.1 shown
       where
@@ -123,7 +123,7 @@ module _ (a : Asked) where
         go (access.Read ts) never (Reads x) l h = (x, l)
         go (access.Read ts) never (Puts x) l h = absurd h
 
-  -- those that an access lends ascend, and the node stands on the path of each
+  -- the list that an access lends ascends, and the node is on the path of each of its transactions
   module _ {s t : Walk} {ts : Bor (List Txn)} where
     pub next_writers_ascend : ReadsNext a s t ts → IsAscendingBy number_of ts.now
     next_writers_ascend r = subst (IsAscendingBy number_of) (sym r.those) (writers_ascend S H n r.cell)
@@ -131,7 +131,7 @@ module _ (a : Asked) where
     pub next_readers_ascend : PutsNext a s t ts → IsAscendingBy number_of ts.now
     next_readers_ascend r = subst (IsAscendingBy number_of) (sym r.those) (readers_ascend S H n r.cell)
 
-    -- known by the same control
+    -- the same facts, stated for an equal control
     module _ {b : Asked} (same : b ≡ a) where
       pub next_writers_here : ReadsNext a s t ts → AreThere b ts.now
       next_writers_here r = subst (λ (k : Asked). AreThere k ts.now) (sym same) (subst (AreThere a) (sym r.those) (writers_here a.facts.now n r.cell a.stands.orderly))

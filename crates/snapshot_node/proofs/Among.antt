@@ -1,4 +1,4 @@
--- Who stands in an ascending list of transactions.
+-- Membership in ascending lists of transactions.
 use Rattle.std.proofs.Common.{◌≡◌, ℕ, ◌≤◌, Bool, true, false, cond, eqb, ◌||◌, List, [], ◌∷◌, filter, inl, inr, refl, sym, ◌∙◌, ap, arith}
 use Rattle.std.proofs.lemmas.Bool.{both_ways, cases_order, eqb-true, eq-eqb, ne_eqb, or_cases, or_left, or_right}
 use Rattle.teb_names.specs.declared.Txn.{Txn}
@@ -6,16 +6,16 @@ use Rattle.teb_history.specs.Ascending.{AllAbove, IsAscendingBy}
 use Rattle.teb_history.specs.Live.{number_of}
 use Rattle.access_book.specs.Books.{is_among}
 
--- a transaction is its number
+-- transactions with equal numbers are equal
 pub one_of : (t u : Txn) → number_of t ≡ number_of u → t ≡ u
 one_of t u e = ap (λ (n : ℕ). record { 0 = n }) e
 
--- nobody of a smaller number stands in a list that is above n
+-- a list whose numbers are all above n has no member numbered n or less
 pub among_above : (n u : ℕ) (xs : List Txn) → u ≤ n → AllAbove number_of n xs → is_among u xs ≡ false
 among_above n u [] l h = refl
 among_above n u (x ∷ xs) l h = rw (ne_eqb x.0 u (λ e. omega (arith, h.0))) (among_above n u xs l h.1)
 
--- who stands in a part of a list stands in the list
+-- a member of a filtered list is a member of the list
 pub among_part : (p : Txn → Bool) (u : ℕ) (xs : List Txn) → is_among u (filter p xs) ≡ true → is_among u xs ≡ true
 among_part p u [] h = h
 among_part p u (x ∷ xs) h = go (p x) h (among_part p u xs)
@@ -24,7 +24,7 @@ among_part p u (x ∷ xs) h = go (p x) h (among_part p u xs)
     go true h ih = elim (or_cases (eqb x.0 u) (is_among u (filter p xs)) h) [ inl e ↦ or_left _ (is_among u xs) e | inr j ↦ or_right (eqb x.0 u) _ (ih j) ]
     go false h ih = or_right (eqb x.0 u) _ (ih h)
 
--- two ascending lists in which the same transactions stand are one
+-- two ascending lists with the same members are equal
 pub among_same : (xs ys : List Txn) → IsAscendingBy number_of xs → IsAscendingBy number_of ys → ((u : ℕ) → is_among u xs ≡ is_among u ys) → xs ≡ ys
 among_same [] [] a b h = refl
 among_same [] (y ∷ ys) a b h = absurd (both_ways _ (sym (h y.0)) (or_left _ _ (eq-eqb y.0 y.0 refl)))

@@ -1,4 +1,4 @@
--- Tests of lists: where one passes, and how two of them combine.
+-- Tests of lists: whether some element passes, and how two tests combine.
 use Rattle.std.proofs.Common.{◌≡◌, ℕ, Bool, true, false, ◌&&◌, ◌||◌, List, [], ◌∷◌, refl, sym, ap, ◌∙◌, inl, inr}
 use Rattle.std.specs.List.{list_any}
 use Rattle.std.proofs.lemmas.Bool.{or_cases, or_left}
@@ -23,12 +23,12 @@ any_both k p q (u ∷ us) = regroup (k u) (p u) (q u) (list_any (λ u. k u && p 
     regroup true false true false e = refl
     regroup true false false d e = refl
 
--- tests of pairs, by either part first
+-- a test of pairs can go through either part first
 pub any_swap : {X : Type 0} (k : ℕ → Bool) (g : ℕ → X → Bool) (us : List ℕ) (xs : List X) → list_any (λ x. list_any (λ u. k u && g u x) us) xs ≡ list_any (λ u. k u && list_any (g u) xs) us
 any_swap k g us [] = sym (any_no k us)
 any_swap k g us (x ∷ xs) = ap (λ (b : Bool). list_any (λ u. k u && g u x) us || b) (any_swap k g us xs) ∙ any_both k (λ u. g u x) (λ u. list_any (g u) xs) us
 
--- the first of a list decides, or leaves it to the rest
+-- if the first element passes, the result is true; if not, the rest decides
 pub any_first : {X : Type 0} (q : X → Bool) (x : X) (rest xs : List X) (r : Bool) → xs ≡ x ∷ rest → list_any q xs ≡ r → q x ≡ true → true ≡ r
 any_first q x rest xs r e h t = sym (or_left (q x) (list_any q rest) t) ∙ sym (ap (list_any q) e) ∙ h
 

@@ -1,4 +1,4 @@
--- Edges at the members of a batch: all of them have begun, and are numbered from the batch's horizon on.
+-- Edges at the members of a batch: each member has begun and is numbered from the batch's horizon on.
 use Rattle.std.specs.Prelude.{IsTrue}
 use Rattle.std.proofs.Common.{◌≡◌, ℕ, Bool, ◌+◌, ◌<◌, ◌≤◌, true, false, ◌⊎◌, List, Option, Some, None, sym, ◌∙◌, subst, inl, inr, arith, eqb, ◌-◌, eqb-true, eq-eqb}
 use Rattle.std.proofs.lemmas.Bool.{cases_lt, both_ways, and_parts, and_from}
@@ -30,7 +30,7 @@ use Rattle.snapshot_node.proofs.Listed.{here_from}
 use Rattle.snapshot_node.proofs.Edges.{gets_put, is_touch, past_touch, begun_place}
 use Rattle.snapshot_node.proofs.Least.{least_as, least_either}
 
--- one batch, by its parts
+-- the parts of one_batch: both are on the node, with the same side and the same start
 pub batch_parts : (S : Setup) (H : List Event) (n b c : ℕ) → one_batch S H n b c ≡ true → (on S H n b ≡ true) × (on S H n c ≡ true) × (side S H n b ≡ side S H n c) × (start S H n b ≡ start S H n c)
 unfolding one_batch
 batch_parts S H n b c h = let q = and_parts _ _ h in let r = and_parts _ _ q.0 in let s = and_parts _ _ r.0 in (s.0, s.1, eqb-true _ _ r.1, eqb-true _ _ q.1)
@@ -46,7 +46,7 @@ batch_trans S H n a b c h k =
     let q = batch_parts S H n b c k in
     and_from _ _ (and_from _ _ (and_from _ _ p.0 q.1) (eq-eqb _ _ (p.2 ∙ q.2))) (eq-eqb _ _ (p.3 ∙ q.3))
 
--- who is at an edge has begun
+-- both ends of an edge have begun
 pub edge_begun : (S : Setup) (H : List Event) (n a b : ℕ) → IsOrderly S H → edge S H n a b ≡ true → (begun H a ≡ true) × (begun H b ≡ true)
 unfolding got got_at
 edge_begun S H n a b o e = let r = any_Has (is_touch H a b) H (past_touch S H a b H (edge_parts S H n a b e).3) in each r.0 r.1 r.2
@@ -63,14 +63,14 @@ leads_here f n t a b o e =
     let m = meets_parts (setup_of f) (events_of f) n a b (edge_parts (setup_of f) (events_of f) n a b e.edge).0 in
     (here_from f n a o g.0 m.0, here_from f n b o g.1 m.1)
 
--- the next one of b's batch, where the loop looks
+-- transaction i + 1, if it is of b's batch, is on the node
 pub mate_here : (f : Facts) (n t b i : ℕ) → IsNumbered (events_of f) → IsOrderly (setup_of f) (events_of f) → i < begun_count (events_of f) → is_mate (setup_of f) (events_of f) n t b (i + 1) ≡ true
     → IsHere f n (i + 1)
 mate_here f n t b i k o l m =
     here_from f n (i + 1) o (begun_all (events_of f) (i + 1) k (omega arith) (omega arith))
     (batch_parts (setup_of f) (events_of f) n b (i + 1) (and_parts (one_batch (setup_of f) (events_of f) n b (i + 1)) (is_at_stake (events_of f) t (i + 1)) m).0).1
 
--- nobody of b's batch is numbered below the horizon of b
+-- no member of b's batch is numbered below the horizon of b
 module _ (S : Setup) (H : List Event) (n b first : ℕ) (l : Lawful S H) (o : IsOrderly S H) (below : ClosedBelow S H n b first) where
   mate_from : (c : ℕ) → begun H c ≡ true → one_batch S H n b c ≡ true → first ≤ c
   mate_from c bc h = elim (cases_lt c first) [
@@ -87,7 +87,7 @@ module _ (S : Setup) (H : List Event) (n b first : ℕ) (l : Lawful S H) (o : Is
   above_first c bc h = let z = (o.numbered c bc).0 in let y = mate_from c bc h in omega arith
 
 module _ (S : Setup) (H : List Event) (n t b : ℕ) (p : ℕ → Bool) where
-  -- who passes the test and leaves b's batch by an edge is numbered above i
+  -- every transaction that passes the test and leaves b's batch by an edge is numbered above i
   abbrev pub LeaveAbove : ℕ → Type 0
   LeaveAbove i = (c d : ℕ) → IsTrue (p c) → Leaves S H n t b c d → i < c
 
@@ -100,7 +100,7 @@ module _ (S : Setup) (H : List Event) (n t b : ℕ) (p : ℕ → Bool) where
     | inr r ↦ (let k : c ≡ i + 1 = omega arith in absurd (none d (subst (λ (w : ℕ). IsTrue (p w)) k q) (subst (λ (w : ℕ). Leaves S H n t b w d) k e)))
   ]
 
-  -- where the next one does not pass, or is not of the batch, or not at stake, or has no edge
+  -- the next transaction does not pass, is not of the batch, is not at stake, or has no edge
   pub leave_unknown : (i : ℕ) → LeaveAbove i → p (i + 1) ≡ false → LeaveAbove (i + 1)
   leave_unknown i above f = leave_next i above (λ d q e. both_ways _ f q)
 
@@ -149,7 +149,7 @@ module _ (S : Setup) (H : List Event) (n t : ℕ) (p : ℕ → Bool) (c : ℕ) w
         | inr l ↦ (let e : m ≡ i + 1 = omega arith in absurd (none a r.one e))
       ]
 
-  -- where the next one does not pass, or is not of the batch, or not at stake
+  -- the next transaction does not pass, is not of the batch, or is not at stake
   pub reach_unknown : (i : ℕ) (best : Option Txn) → p (i + 1) ≡ false → IsLeast (ReachesBy S H n t p c i) best → IsLeast (ReachesBy S H n t p c (i + 1)) best
   reach_unknown i best f h = reach_next i best (λ a r e. both_ways _ f (subst (λ (w : ℕ). p w ≡ true) e r.passes)) h
 

@@ -1,4 +1,4 @@
--- Nobody has put or read anything in the empty history.
+-- In the empty history no transaction has put or read anything.
 use Rattle.std.proofs.Common.{◌≡◌, ℕ, false, not, ◌&&◌, List, [], sym, ◌∙◌, ap, subst}
 use Rattle.std.proofs.lemmas.Bool.{and_right}
 use Rattle.teb_names.specs.declared.Cell.{Cell}
@@ -36,7 +36,7 @@ reads_none S n x u = and_right (on S [] n u && not (aborted [] u)) (got [] u x) 
 committed_none_in : (S : Setup) (n : ℕ) (x : Cell) (u : ℕ) → has_committed_in S [] n x u ≡ false
 committed_none_in S n x u = and_right (on S [] n u && committed [] u) (wrote [] u x) (wrote_none u x)
 
--- and the empty book of accesses tells so
+-- the empty book of accesses shows the empty history
 module _ (S : Setup) (H : List Event) (n : ℕ) (a : Shown) (e : H ≡ []) (h : IsEmpty a) where
   filed_none : AreFiled a
   filed_none = record {

@@ -1,4 +1,4 @@
--- To whom edges lead from a transaction, and from whom they lead to it, access by access.
+-- The edges from and to a transaction, access by access.
 use Rattle.std.proofs.Common.{◌≡◌, ℕ, Bool, true, false, not, ◌&&◌, List, inl, inr, is_some, sym, ◌∙◌, ap}
 use Rattle.std.specs.List.{list_any}
 use Rattle.std.proofs.lemmas.Bool.{and_parts, and_from, cases_Bool, not_from_false, or_left, or_right}
@@ -37,16 +37,16 @@ pub record Shared (H : List Event) (a b : ℕ) : Type 0 where
   pub read : got H a cell ≡ true
   pub put : wrote H b cell ≡ true
 
--- what holds of a cell holds of the same
+-- a test that holds of a cell holds of an equal cell
 of_same : (P : Cell → Bool) (y x : Cell) → same_cell y x ≡ true → P x ≡ true → P y ≡ true
 of_same P y x h p = ap P (same_cell-exact y x h) ∙ p
 
--- whom an access tells of, where only reads count, each by its cell
+-- the property of an access that a property of its cell gives, if only reads count
 abbrev pub ByRead : (Cell → ℕ → Type 0) → Touched → ℕ → Type 0
 ByRead F (Reads x) d = F x d
 ByRead F (Puts x) d = ⊥
 
--- the same where only puts count
+-- the same if only puts count
 abbrev pub ByPut : (Cell → ℕ → Type 0) → Touched → ℕ → Type 0
 ByPut F (Reads x) a = ⊥
 ByPut F (Puts x) a = F x a
@@ -63,7 +63,7 @@ module _ (S : Setup) (H : List Event) (n t : ℕ) where
   abbrev pub Behind : ℕ → Touched → ℕ → Type 0
   Behind b = ByPut (ReadAcross b)
 
--- where two are across and share a cell, the accesses of each of them tell of the other
+-- if two transactions are across and share a cell, the accesses of each lead to the other
 module _ (S : Setup) (H : List Event) (n t : ℕ) where
   pub shared_ahead : (c d : ℕ) → is_at_stake H t d ≡ true → is_across S H n c d ≡ true → Shared H c d → Along (Ahead S H n t c) (accesses_of H c) d
   shared_ahead c d st k p =
@@ -90,9 +90,9 @@ module _ (S : Setup) (H : List Event) (n t : ℕ) where
       }
       each (Reads y) i = absurd (cc)
 
--- those at stake, where t is not aborted
+-- transactions at stake, if t is not aborted
 module _ (S : Setup) (H : List Event) (n t : ℕ) (l : Lawful S H) (o : IsOrderly S H) (runs : aborted H t ≡ false) where
-  -- who is at stake and has put a cell is among its writers
+  -- a transaction that is at stake and has put a cell is among its writers
   stake_counts : (u : ℕ) (x : Cell) → wrote H u x ≡ true → is_at_stake H t u ≡ true → counts H u ≡ true
   stake_counts u x w st = elim (cases_Bool (committed H u)) [
     | inl e ↦ or_right (unfinished H u) _ e
@@ -113,7 +113,6 @@ module _ (S : Setup) (H : List Event) (n t : ℕ) (l : Lawful S H) (o : IsOrderl
     across = h.across;
   }
 
-  -- at a snapshot node
   module _ (a : TreeFacts S) (k : (row S.tree n).control ≡ Snapshot) where
     shared : (u w : ℕ) → list_any (gets_put H w) (own_events H u) ≡ true → Shared H u w
     shared u w h = let r = any_Has (gets_put H w) (own_events H u) h in found r.0 r.1 r.2

@@ -1,4 +1,4 @@
--- Where a batch closes, as a book of batches tells it.
+-- The close of a batch, as a book of batches gives it.
 use Rattle.std.proofs.Common.{◌≡◌, ℕ, ◌≤◌, Bool, true, false, List, length, cond, Option, Some, None, unwrap_or, ltb, refl, ap, ◌∙◌, inl, inr, arith, lt-ltb}
 use Rattle.std.proofs.lemmas.Bool.{cases_lt, both_ways}
 use Rattle.teb_history.specs.declared.Event.{Event}

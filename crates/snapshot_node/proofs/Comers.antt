@@ -1,4 +1,4 @@
--- Who comes first in a pivot, by where the transaction that validates stands in it.
+-- The least first transaction of a pivot, by the place of the validating transaction in it.
 use Rattle.std.specs.Prelude.{IsTrue}
 use Rattle.std.proofs.Common.{◌≡◌, ℕ, true, false, eqb, List, ◌∷◌, ◌⊎◌, inl, inr, Option, Some, None, ◌≤◌, le_refl, refl, sym, subst, eqb-true, eq-eqb}
 use Rattle.std.proofs.lemmas.Bool.{and_parts, or_left}
@@ -24,16 +24,16 @@ use Rattle.snapshot_node.proofs.CellEdges.{ByPut, Behind, behind_leads, leads_be
 use Rattle.snapshot_node.proofs.Batchmates.{batch_parts, batch_sym, batch_trans}
 use Rattle.snapshot_node.proofs.Reach.{with_t}
 
--- t is at stake where it validates
+-- the validating transaction is at stake
 pub stake_itself : (H : List Event) (t : ℕ) → is_at_stake H t t ≡ true
 stake_itself H t = or_left _ (committed H t) (or_left _ (prepared H t) (eq-eqb t t refl))
 
 module _ (S : Setup) (H : List Event) (n t : ℕ) where
-  -- a comes in by a reader of the cell that the access has put
+  -- a comes in through a reader of the cell that the access has put
   abbrev pub ComesBy : Touched → ℕ → Type 0
   ComesBy = ByPut (λ x. ComesInAmong S H n t (readers_in S H n x))
 
-  -- the same by the batch of c, which is at stake and across from t
+  -- a comes in through the batch of c, which is at stake and across from t
   abbrev pub ComesThrough : Txn → ℕ → Type 0
   ComesThrough c a = IsTrue (is_at_stake H t c.0) × IsTrue (is_across S H n t c.0) × Reaches S H n t c.0 a
 
@@ -52,7 +52,6 @@ module _ (S : Setup) (H : List Event) (n t : ℕ) where
         along_of ComesThrough a r.0 cs r.1 (subst (λ (z : ℕ). ComesThrough (record { 0 = z }) a) (sym (eqb-true r.0.0 c r.2)) y)
 
   module _ (l : Lawful S H) (o : IsOrderly S H) (runs : aborted H t ≡ false) where
-    -- at a snapshot node
     module _ (f : TreeFacts S) (k : (row S.tree n).control ≡ Snapshot) where
       pub along_comes : (a : ℕ) → Along ComesBy (accesses_of H t) a → ComesIn S H n t a
       along_comes a h = let r = along_item ComesBy a (accesses_of H t) h in each r.0 r.1 r.2
@@ -74,7 +73,7 @@ module _ (S : Setup) (H : List Event) (n t : ℕ) where
           each (Puts x) q = record { third = h.third; into = h.into; across = q }
           each (Reads x) q = absurd q
 
--- the least with P or, where C holds, with Q
+-- the least number that has P or, if C holds, Q
 pub least_with : (P Q : ℕ → Type 0) (C : Type 0) (best next : Option Txn) → C → IsLeast P best → IsLeast Q next → IsLeast (λ u. P u ⊎ (Q u × C)) (lesser_of best next)
 least_with P Q C best next c h k = least_as (λ u. P u ⊎ Q u) (λ u. P u ⊎ (Q u × C)) (lesser_of best next) (λ u z. elim z [ inl p ↦ inl p | inr q ↦ inr (q, c) ])
     (λ u z. elim z [ inl p ↦ inl p | inr q ↦ inr q.0 ]) (least_either P Q best next h k)
@@ -83,7 +82,7 @@ pub least_without : (P Q : ℕ → Type 0) (C : Type 0) (best : Option Txn) → 
 least_without P Q C best n h = least_as P (λ u. P u ⊎ (Q u × C)) best (λ u p. inl p) (λ u z. elim z [ inl p ↦ p | inr q ↦ absurd (n q.1) ]) h
 
 module _ (S : Setup) (H : List Event) (n t : ℕ) where
-  -- t is the fourth or the second, or the third or the first
+  -- a is the first of a pivot in which t is the fourth, second, third or first
   abbrev WithFirst : ℕ → Type 0
   WithFirst a = ComesBefore S H n t a ⊎ ComesAfter S H n t a
 
@@ -104,7 +103,7 @@ module _ (S : Setup) (H : List Event) (n t : ℕ) where
     ]
   ]
 
-  -- and each pivot is of one of these
+  -- every pivot has t at one of these places
   module _ (l : Lawful S H) (f : TreeFacts S) (k : (row S.tree n).control ≡ Snapshot) where
     first_with : (a : ℕ) → IsFirst S H n t a → WithFirst a
     first_with a h =
@@ -120,14 +119,14 @@ module _ (S : Setup) (H : List Event) (n t : ℕ) where
     pub least_comer : (o w : Option Txn) → IsLeast (ComesBefore S H n t) o → IsLeast (ComesAfter S H n t) w → IsLeast (IsFirst S H n t) (lesser_of o w)
     least_comer o w h g = least_as WithFirst (IsFirst S H n t) (lesser_of o w) with_first first_with (least_either (ComesBefore S H n t) (ComesAfter S H n t) o w h g)
 
-  -- where no edge leads to t, nobody comes before it, and where none leads from it, nobody after
+  -- without an edge to t no transaction comes before it, and without an edge from t none comes after it
   pub none_before : ((a : ℕ) → Leads S H n t a t → ⊥) → IsLeast (ComesBefore S H n t) None
   none_before none = λ a h. elim h [ inl q ↦ none q.third q.out | inr q ↦ none a q.0 ]
 
   pub none_after : ((b : ℕ) → Leads S H n t t b → ⊥) → IsLeast (ComesAfter S H n t) None
   none_after none = λ a h. elim h [ inl q ↦ none q.1.0 q.1.1 | inr q ↦ none q.1.0 q.1.1.into ]
 
-  -- with an edge from t, by who leads into its batch and by whether it has a middle
+  -- with an edge from t: the least of t itself and of those that reach its batch, if there is a middle; else only of those that reach it
   pub after_with : (d : ℕ) → Leads S H n t t d → (o : Option Txn) (u : Txn) → u.0 ≡ t → IsLeast (Reaches S H n t t) o → (b : ℕ) × IsMiddle S H n t t b
       → IsLeast (ComesAfter S H n t) (lesser_of o (Some u))
   after_with d e o u q h m =
@@ -138,13 +137,13 @@ module _ (S : Setup) (H : List Event) (n t : ℕ) where
   pub after_without : (d : ℕ) → Leads S H n t t d → (o : Option Txn) → IsLeast (Reaches S H n t t) o → ((b : ℕ) → IsMiddle S H n t t b → ⊥) → IsLeast (ComesAfter S H n t) o
   after_without d e o h none = least_as (Reaches S H n t t) (ComesAfter S H n t) o (λ a r. inl (r, (d, e))) (λ a z. elim z [ inl r ↦ r.0 | inr x ↦ absurd (none x.1.0 x.1.1) ]) h
 
--- a walk along those across from t asks one of each batch
+-- a walk along the transactions across from t asks one member of each batch
 module _ (S : Setup) (H : List Event) (n t : ℕ) where
-  -- whoever reaches b's batch reaches that of its mate
+  -- a transaction that reaches b's batch reaches the batch of b's mate, which is the same
   reaches_mate : (b c u : ℕ) → one_batch S H n b c ≡ true → Reaches S H n t b u → Reaches S H n t c u
   reaches_mate b c u h r = record { member = r.member; batch = batch_trans S H n c b r.member (batch_sym S H n b c h) r.batch; edge = r.edge }
 
-  -- the last one that was asked is t, or the least that reaches its batch is not below the best
+  -- the last transaction asked is t, or the least that reaches its batch does not improve on the best
   pub record IsLast (last : Txn) (best : Option Txn) : Type 0 where
     pub there : IsTrue (begun H last.0)
     pub asked : (last.0 ≡ t) ⊎ ((o : Option Txn) × IsLeast (Reaches S H n t last.0) o × (lesser_of best o ≡ best))
@@ -155,7 +154,7 @@ module _ (S : Setup) (H : List Event) (n t : ℕ) where
   pub last_next : (c : Txn) (best o : Option Txn) → IsTrue (begun H c.0) → IsLeast (Reaches S H n t c.0) o → IsLast c (lesser_of best o)
   last_next c best o b k = record { there = b; asked = inr (o, k, lesser_twice best o) }
 
-  -- a mate of the last one adds nobody
+  -- a mate of the last transaction asked adds nothing
   pub remains_mate : (P : ℕ → Type 0) (last c : Txn) (best : Option Txn) (left rest : List Txn) → left ≡ c ∷ rest → IsLast last best → one_batch S H n last.0 c.0 ≡ true → IsTrue (is_at_stake H t c.0)
       → IsTrue (is_across S H n t c.0)
       → Remains (ComesThrough S H n t) P left best → Remains (ComesThrough S H n t) P rest best

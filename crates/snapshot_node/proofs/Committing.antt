@@ -1,4 +1,4 @@
--- Who is a committed writer of a cell, and for what the committed writers stand, after one more event.
+-- The committed writers of a cell, and what the book's committed writers show, after one more event.
 use Rattle.std.proofs.Common.{◌≡◌, ℕ, ℤ, ◌+◌, ◌≤◌, Bool, true, false, cond, eqb, ◌&&◌, ◌||◌, List, ◌∷◌, Option, refl, sym, ◌∙◌, ap, arith, inl, inr, eqb-true}
 use Rattle.std.proofs.lemmas.Bool.{cases_Bool, and_right}
 use Rattle.teb_names.specs.declared.Cell.{Cell}
@@ -26,12 +26,12 @@ use Rattle.snapshot_node.proofs.Writing.{committed_kept, wrote_kept}
 use Rattle.snapshot_node.proofs.Pending.{pending_stays, pending_more, pending_began, pending_ended, ends_done, ends_gone}
 use Rattle.snapshot_node.proofs.Touching.{touched_at, puts_at, count_at}
 
--- an event that is none of u's Began, Put and Done
+-- an event that is none of u's Began, Put and Done changes nothing for u
 still_committed : (S : Setup) (P : List Event) (n : ℕ) (e : Event) (x : Cell) (u : ℕ) → is_began u e ≡ false → is_put u x e ≡ false → is_done u e ≡ false
     → has_committed_in S (e ∷ P) n x u ≡ has_committed_in S P n x u
 still_committed S P n e x u b p d = λ j. on_kept S e P n u b j && committed_kept e P u d j && wrote_kept e P u x p j
 
--- t begins, and has put nothing yet
+-- t begins; it has put nothing yet
 began_committed : (S : Setup) (P : List Event) (n : ℕ) (t : Txn) (s : Session) (k : Kind) (i : ℕ) → ((x : Cell) → wrote P t.0 x ≡ false) → (x : Cell) (u : ℕ)
     → has_committed_in S (Began t s k i ∷ P) n x u ≡ has_committed_in S P n x u
 began_committed S P n t s k i new x u = elim (cases_Bool (eqb t.0 u)) [
@@ -45,7 +45,7 @@ began_committed S P n t s k i new x u = elim (cases_Bool (eqb t.0 u)) [
 uncommitted : (S : Setup) (H : List Event) (n : ℕ) (x : Cell) (u : ℕ) → committed H u ≡ false → has_committed_in S H n x u ≡ false
 uncommitted S H n x u h = ap (λ (b : Bool). b && wrote H u x) (and_right (on S H n u) (committed H u) h)
 
--- t, which is unfinished, puts y
+-- t, which is unfinished, puts y; the committed writers stay
 put_committed : (S : Setup) (P : List Event) (n : ℕ) (t : Txn) (y : Cell) (v : Option ℤ) (x : Cell) (u : ℕ) → unfinished P t.0 ≡ true
     → has_committed_in S (Put t y v ∷ P) n x u ≡ has_committed_in S P n x u
 put_committed S P n t y v x u run = elim (cases_Bool (eqb t.0 u)) [
@@ -78,7 +78,7 @@ done_committed S P n t x u = go (eqb t.0 u) refl ∙ sym (λ j. on_kept S (Done 
     go false q = apart (has_committed_in S P n x u) (on S P n t.0 && wrote P t.0 x)
 
 module _ (S : Setup) (P : List Event) (n : ℕ) (a : Shown) (old : CommittedStand n a S P) where
-  -- an event that changes neither
+  -- an event that changes neither the committed writers nor the pending puts
   stays : (a' : Shown) (e : Event) → AreKept (committed_of a) (committed_of a') → a'.pending ≡ a.pending → ((x : Cell) (u : ℕ) → has_committed_in S (e ∷ P) n x u ≡ has_committed_in S P n x u)
       → pending_in S (e ∷ P) n ≡ pending_in S P n → CommittedStand n a' S (e ∷ P)
   stays a' e k q h p = record { put = λ x u. ap (is_among u) (k x) ∙ old.put x u ∙ sym (h x u); pending = q ∙ old.pending ∙ sym p }
@@ -111,7 +111,7 @@ module _ (S : Setup) (P : List Event) (n : ℕ) (a : Shown) (old : CommittedStan
     pub committed_put_off : on S P n t.0 ≡ false → CommittedStand n a S (Put t y v ∷ P)
     committed_put_off o = stays a _ (λ x. refl) refl (λ x u. put_committed S P n t y v x u run) (pending_stays S P n (Put t y v) (λ u. refl) (λ u. refl) (λ u. refl) (waits false o))
 
-  -- t ends, whose accesses the book shows
+  -- t ends, and the book shows its accesses
   module _ (t : Txn) (run : unfinished P t.0 ≡ true) (z : touched_of a t.0 ≡ touched_at S P n t.0) where
     counted : puts_among (touched_of a t.0) ≡ cond (on S P n t.0) (puts_of P t.0) 0
     counted = ap puts_among z ∙ count_at S P n t.0

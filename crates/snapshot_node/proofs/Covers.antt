@@ -1,8 +1,8 @@
--- A walk along a list that comes to have R of each number of which some item that was passed has Q.
+-- A walk along a list that establishes R for each number that has Q with a visited item.
 use Rattle.std.proofs.Common.{◌≡◌, ℕ, List, [], ◌∷◌, ◌⊎◌, inl, inr, sym, subst}
 use Rattle.snapshot_node.proofs.Least.{Along}
 
--- R holds of those by the items passed; the items `left` are still to come
+-- R holds of each number that has Q with a visited item; the items `left` are still to come
 abbrev pub Covers : {X : Type 0} → (X → ℕ → Type 0) → (ℕ → Type 0) → List X → List X → Type 0
 Covers Q R all left = (u : ℕ) → Along Q all u → R u ⊎ Along Q left u
 
@@ -19,6 +19,6 @@ module _ {X : Type 0} (Q : X → ℕ → Type 0) (R : ℕ → Type 0) (all : Lis
   pub covers_end : (left : List X) → left ≡ [] → Covers Q R all left → (u : ℕ) → Along Q all u → R u
   covers_end left e h u a = elim (h u a) [ inl r ↦ r | inr b ↦ absurd (subst (λ (xs : List X). Along Q xs u) e b) ]
 
-  -- as more becomes known
+  -- R can be weakened during the walk
   pub covers_more : (R' : ℕ → Type 0) (left : List X) → ((u : ℕ) → R u → R' u) → Covers Q R all left → Covers Q R' all left
   covers_more R' left f h = λ u a. elim (h u a) [ inl r ↦ inl (f u r) | inr b ↦ inr b ]

@@ -1,4 +1,4 @@
--- An edge is found without a comparison of versions.
+-- An edge can be found without comparing versions.
 use Rattle.std.proofs.Common.{◌≡◌, ℕ, ◌<◌, ◌≤◌, Bool, true, false, not, ◌&&◌, ◌||◌, eqb, ltb, List, [], ◌∷◌, filter, cond, Option, Some, None, refl, sym, ◌∙◌, ap, subst, inl, inr, arith, ℤ, length, lt-ltb, le-ltb, le_refl, eqb-true, eq-eqb, ltb-true}
 use Rattle.std.specs.List.{list_any}
 use Rattle.std.proofs.lemmas.Bool.{cases_lt, cases_eq, cases_Bool, both_ways, ne_eqb, and_parts, and_from, or_cases, or_left, or_right, false_from_ne_true, ltb-false}
@@ -38,7 +38,7 @@ abbrev pub gets_put : List Event → ℕ → Event → Bool
 gets_put H b (Got s x w v) = wrote H b x
 gets_put H b _ = false
 
--- the same by a
+-- the event is a Got by a of a cell that b has put
 abbrev pub is_touch : List Event → ℕ → ℕ → Event → Bool
 is_touch H a b e = is_of a e && gets_put H b e
 
@@ -106,7 +106,7 @@ pub prepared_runs : (H : List Event) (u : ℕ) → prepared H u ≡ true → unf
 unfolding prepared
 prepared_runs H u p = (and_parts (unfinished H u) (came H (ready_at H u)) p).0
 
--- who is at stake is not aborted
+-- a transaction at stake is not aborted
 pub stake_stands : (S : Setup) (H : List Event) (t u : ℕ) → Lawful S H → aborted H t ≡ false → is_at_stake H t u ≡ true → aborted H u ≡ false
 stake_stands S H t u l n h = elim (or_cases (eqb u t || prepared H u) (committed H u) h) [
   | inr c ↦ (unfold aborted in le-ltb _ _ (commits S H u l (commits_from H u c)).1)
@@ -121,7 +121,7 @@ unfolding begun
 begun_place H u h = ltb-true _ _ h
 
 module _ (S : Setup) (H : List Event) (n : ℕ) (l : Lawful S H) where
-  -- two batches of different sides are concurrent where neither is closed before the other starts
+  -- two batches of different sides are concurrent if neither is closed before the other starts
   concurrent_unless : (u w : ℕ) → began_at H u < length H → began_at H w < length H → on S H n u ≡ true → on S H n w ≡ true
       → (not (ltb (close S H n w) (start S H n u)) && not (ltb (close S H n u) (start S H n w))) ≡ concurrent S H n u w
   unfolding concurrent
@@ -134,7 +134,7 @@ module _ (S : Setup) (H : List Event) (n : ℕ) (l : Lawful S H) where
       ]
 
 module _ (S : Setup) (H : List Event) (n : ℕ) where
-  -- whoever is across from u is numbered m or above, where those below it are closed before u's batch starts
+  -- if all transactions below m are closed before u's batch starts, a transaction across from u is numbered m or above
   pub across_later : (u m w : ℕ) → ClosedBelow S H n u m → begun H w ≡ true → is_across S H n u w ≡ true → m ≤ w
   unfolding concurrent
   across_later u m w below b h =
@@ -142,7 +142,7 @@ module _ (S : Setup) (H : List Event) (n : ℕ) where
       let y = ltb-true _ _ (and_parts (ltb (start S H n u) (close S H n w)) (ltb (start S H n w) (close S H n u)) p.1).0 in
       elim (cases_lt w m) [ inl l ↦ absurd (let z = below w l b (meets_parts S H n u w p.0).1 in omega arith) | inr l ↦ l ]
 
-  -- nobody is across from himself
+  -- no transaction is across from itself
   pub across_same : (u w : ℕ) → not (eqb u w) ≡ false → false ≡ is_across S H n u w
   across_same u w h = sym (false_from_ne_true _ (λ k. (meets_parts S H n u w (and_parts (meets S H n u w) (concurrent S H n u w) k).0).2 (ap (side S H n) (eqb-true u w (even (eqb u w) h)))))
     where
@@ -183,7 +183,7 @@ module _ (S : Setup) (a : TreeFacts S) (H : List Event) (n : ℕ) (l : Lawful S 
       go true e false f q g = refl
       go false e p f q g = refl
 
--- two that are not of one batch, and two that are where their batches start at one place
+-- one_batch is false off the node and for different sides; on one side it compares the starts
 module _ (S : Setup) (H : List Event) (n b c : ℕ) where
   pub off_left : on S H n b ≡ false → false ≡ one_batch S H n b c
   unfolding one_batch
@@ -211,7 +211,7 @@ module _ (S : Setup) (H : List Event) (n b c : ℕ) where
   unfolding one_batch
   one_start x y z = λ j. ((sym x j && sym y j) && sym z j) && eqb (start S H n b) (start S H n c)
 
--- where a batch starts, of one on whose path the node stands or does not
+-- an optional start is present if and only if the node is on the path, and then it is the start
 pub started : (b : Bool) (s i : ℕ) → Some i ≡ cond b (Some s) None → (b ≡ true) × (i ≡ s)
 started true s i e = (refl, (let q : Some i ≡ Some s = e in cc))
 started false s i e = absurd (cc)
@@ -220,16 +220,16 @@ pub unstarted : (b : Bool) (s : ℕ) → None ≡ cond b (Some s) None → b ≡
 unstarted true s e = absurd (cc)
 unstarted false s e = refl
 
--- two that are here
+-- two transactions that have begun and are on the node
 module _ (S : Setup) (H : List Event) (n : ℕ) (l : Lawful S H) (u w : ℕ) (bu : began_at H u < length H) (bw : began_at H w < length H) (ou : on S H n u ≡ true) (ow : on S H n w ≡ true) where
-  -- they are of one batch where theirs start at one place
+  -- they are of one batch if and only if their batches start at the same event
   pub one_by_start : eqb (start S H n u) (start S H n w) ≡ one_batch S H n u w
   one_by_start = elim (cases_eq (side S H n u) (side S H n w)) [
     | inl e ↦ one_start S H n u w ou ow (eq-eqb _ _ e)
     | inr ne ↦ ne_eqb _ _ (start_differs S H n u w l bu bw ou ow ne) ∙ off_side S H n u w (ne_eqb _ _ ne)
   ]
 
-  -- of two whose batches are concurrent, the batches start apart where they meet
+  -- for concurrent batches: the starts differ if and only if the two meet
   apart_meet : concurrent S H n u w ≡ true → not (eqb (start S H n u) (start S H n w)) ≡ meets S H n u w
   unfolding concurrent
   apart_meet c = elim (cases_eq (side S H n u) (side S H n w)) [
@@ -243,7 +243,7 @@ module _ (S : Setup) (H : List Event) (n : ℕ) (l : Lawful S H) (u w : ℕ) (bu
     | inr ne ↦ ap not (ne_eqb _ _ (start_differs S H n u w l bu bw ou ow ne)) ∙ sym (meets_from S H n u w ou ow ne)
   ]
 
-  -- they are across from one another where their batches start apart, and neither is closed before the other starts
+  -- they are across if and only if their starts differ and neither batch is closed before the other starts
   pub across_overlap : ((not (eqb (start S H n u) (start S H n w)) && not (ltb (close S H n u) (start S H n w))) && not (ltb (close S H n w) (start S H n u))) ≡ is_across S H n u w
   across_overlap =
       turn (not (eqb (start S H n u) (start S H n w))) (not (ltb (close S H n u) (start S H n w))) (not (ltb (close S H n w) (start S H n u)))

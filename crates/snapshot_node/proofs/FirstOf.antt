@@ -1,4 +1,4 @@
--- The first of an ascending list that has a property, found from a number on.
+-- The first element of an ascending list that has a property, searched from a number on.
 use Rattle.std.specs.Prelude.{IsTrue}
 use Rattle.std.proofs.Common.{◌≡◌, ℕ, zero, suc, ◌+◌, ◌<◌, ◌≤◌, Bool, true, false, cond, leb, le-leb, eqb, List, [], ◌∷◌, ◌⊎◌, inl, inr, length, filter, get_or, Some, refl, sym, subst, arith}
 use Rattle.std.proofs.lemmas.Bool.{cases_lt, both_ways, or_cases, or_left, or_right, eqb-true}
@@ -9,11 +9,11 @@ use Rattle.access_book.specs.Books.{is_among}
 use Rattle.snapshot_node.specs.Pivots.{IsLeast}
 use Rattle.snapshot_node.proofs.Among.{among_above}
 
--- who stands in a list that is above n is numbered above n
+-- a member of a list whose numbers are all above n is numbered above n
 among_over : (n u : ℕ) (xs : List Txn) → AllAbove number_of n xs → is_among u xs ≡ true → n < u
 among_over n u xs a h = elim (cases_lt n u) [ inl l ↦ l | inr l ↦ absurd (both_ways (is_among u xs) (among_above n u xs l a) h) ]
 
--- who stands in a list, and is numbered m or above, stands among those from m on
+-- a member numbered m or above is a member of the part from m on
 pub among_from : (m u : ℕ) (xs : List Txn) → m ≤ u → is_among u xs ≡ true → is_among u (filter (λ w. leb m w.0) xs) ≡ true
 among_from m u [] l h = absurd (cc)
 among_from m u (x ∷ xs) l h = go (leb m x.0) refl (among_from m u xs l) (or_cases (eqb x.0 u) (is_among u xs) h)
@@ -26,7 +26,7 @@ among_from m u (x ∷ xs) l h = go (leb m x.0) refl (among_from m u xs l) (or_ca
     go false e ih (inr j) = ih j
 
 module _ (P : ℕ → Type 0) (d : Txn) where
-  -- nobody of a list before place i has P
+  -- no element of a list before place i has P
   abbrev pub NoneBefore : List Txn → ℕ → Type 0
   NoneBefore xs i = (j : ℕ) → j < i → P (get_or xs j d).0 → ⊥
 
@@ -55,7 +55,7 @@ module _ (P : ℕ → Type 0) (d : Txn) where
     | inr j ↦ none_at_all xs i u (omega arith) (λ k m q. none (suc k) (omega arith) q) j p
   ]
 
-  -- a search among them, where whoever has P stands in the list
+  -- a search in a list that contains every transaction with P
   module _ (xs : List Txn) (listed : (u : ℕ) → P u → IsTrue (is_among u xs)) where
     pub first_is : IsAscendingBy number_of xs → (i : ℕ) → i < length xs → NoneBefore xs i → P (get_or xs i d).0 → IsLeast P (Some (get_or xs i d))
     first_is a i l none p = (p, λ u q. first_least xs i u a l none (listed u q) q)

@@ -1,4 +1,4 @@
--- Whom a write meets, found among the writers of the cell.
+-- The transaction that a write meets, found among the writers of the cell.
 use Rattle.std.proofs.Common.{◌≡◌, ℕ, Bool, true, false, not, ◌&&◌, ltb, List, find, refl, ◌∙◌}
 use Rattle.std.proofs.lemmas.Bool.{and_parts, and_from, or_left, or_right}
 use Rattle.teb_names.specs.declared.Cell.{Cell}

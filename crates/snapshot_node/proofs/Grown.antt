@@ -1,4 +1,4 @@
--- Marks that grow, and walks that make them.
+-- Marks that have grown, and the walks that set them.
 use Rattle.std.proofs.Common.{◌≡◌, ℕ, zero, suc, ◌+◌, ◌<◌, ◌≤◌, true, eqb, List, [], ◌∷◌, length, get_or, refl, sym, ◌∙◌, subst, inl, inr, arith, eqb-true}
 use Rattle.std.proofs.lemmas.Bool.{cases_lt, or_cases}
 use Rattle.teb_names.specs.declared.Txn.{Txn}
@@ -23,7 +23,7 @@ grown_then a b c h k = record {
 pub told_still : (S : Setup) (H : List Event) (n : ℕ) (a b : List Mark) (u w : ℕ) → HaveGrown a b → IsTold S H n a u w → IsTold S H n b u w
 told_still S H n a b u w g t = record { left = g.left _ t.left; entered = g.entered _ t.entered; ahead = g.ahead _ t.ahead; behind = g.behind _ t.behind }
 
--- where one of some transactions stands
+-- the place of a member in a list
 pub place_among : (d : Txn) (xs : List Txn) (u : ℕ) → is_among u xs ≡ true → (j : ℕ) × (j < length xs) × ((get_or xs j d).0 ≡ u)
 place_among d [] u h = absurd (cc)
 place_among d (x ∷ xs) u h = elim (or_cases (eqb x.0 u) (is_among u xs) h) [
@@ -31,7 +31,7 @@ place_among d (x ∷ xs) u h = elim (or_cases (eqb x.0 u) (is_among u xs) h) [
   | inr k ↦ (let r = place_among d xs u k in let z = r.1 in (suc r.0, (let y : suc r.0 < suc (length xs) = omega arith in y), r.2))
 ]
 
--- R holds of those with P before place i of a list
+-- before place i of a list, each element with P has R
 module _ (P R : ℕ → Type 0) (d : Txn) (xs : List Txn) where
   abbrev pub EachBefore : ℕ → Type 0
   EachBefore i = (j : ℕ) → j < i → P (get_or xs j d).0 → R (get_or xs j d).0
@@ -48,6 +48,6 @@ module _ (P R : ℕ → Type 0) (d : Txn) (xs : List Txn) where
       let z = r.1 in
       subst R r.2 (h r.0 (omega arith) (subst P (sym r.2) p))
 
--- what R holds of, as more becomes known
+-- R can be weakened during the walk
 pub each_grown : (P R Q : ℕ → Type 0) (d : Txn) (xs : List Txn) (i : ℕ) → ((u : ℕ) → R u → Q u) → EachBefore P R d xs i → EachBefore P Q d xs i
 each_grown P R Q d xs i f h = λ j l p. f (get_or xs j d).0 (h j l p)

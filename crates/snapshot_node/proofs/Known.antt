@@ -1,4 +1,4 @@
--- Edges at a batch: those at who is known to have one, and those of the one that validates.
+-- Edges at a batch: those of members that are known to have one, and those of the validating transaction.
 use Rattle.std.specs.Prelude.{IsTrue}
 use Rattle.std.proofs.Common.{◌≡◌, ℕ, ◌<◌, ◌≤◌, Bool, false, cond, List, inl, inr, Option, Some, None, lt-ltb, le-ltb, le_refl, sym, subst, arith}
 use Rattle.std.proofs.lemmas.Bool.{cases_lt, cases_eq, cases_Bool, both_ways}
@@ -21,7 +21,7 @@ use Rattle.snapshot_node.proofs.Accessed.{accesses_of}
 use Rattle.snapshot_node.proofs.CellEdges.{Ahead, Behind, puts_across, listed_across, ahead_leads, leads_ahead, behind_leads, leads_behind}
 use Rattle.snapshot_node.proofs.Comers.{stake_itself}
 
--- with the least member of b's batch that has an edge to t, the least edge out of it is known
+-- given the least member of b's batch that has an edge to t, the least edge out of the batch is known
 module _ (S : Setup) (H : List Event) (n : ℕ) (t : Txn) (b : ℕ) where
   pub edge_with : (known : Option (Txn × Txn)) (c : Txn) → IsLeastEdgeAside S H n t.0 b known → IsLeast (λ u. Leaves S H n t.0 b u t.0) (Some c) → IsLeastEdge S H n t.0 b (earlier_of known (c, t))
   edge_with None c known least = (least.0, first, ends)
@@ -49,12 +49,12 @@ module _ (S : Setup) (H : List Event) (n : ℕ) (t : Txn) (b : ℕ) where
   edge_without None known none = λ e. none e.from (subst (λ (z : ℕ). Leaves S H n t.0 b e.from z) (known e.from e.to e.out) e.out)
   edge_without (Some e) known none = (known.0, λ u d x. elim (cases_eq d t.0) [ inl q ↦ absurd (none u (subst (λ (z : ℕ). Leaves S H n t.0 b u z) q x)) | inr ne ↦ known.1 u d x ne ], known.2)
 
-  -- who does not pass the test has edges to t alone
+  -- a transaction that does not pass the test has edges to t only
   pub aside_known : (p : ℕ → Bool) → ((c d : ℕ) → p c ≡ false → Leads S H n t.0 c d → d ≡ t.0) → (known : Option (Txn × Txn)) → IsLeastEdgeFrom S H n t.0 p b known → IsLeastEdgeAside S H n t.0 b known
   aside_known p only None h = λ c d e. elim (cases_Bool (p c)) [ inl y ↦ absurd (h c d y e) | inr f ↦ only c d f e.out ]
   aside_known p only (Some k) h = (h.0, λ c d e ne. elim (cases_Bool (p c)) [ inl y ↦ h.1 c d y e | inr f ↦ absurd (ne (only c d f e.out)) ], h.2)
 
-  -- nobody else of the batch has an edge but to t
+  -- only t has edges out of the batch other than to t
   module _ (mine : (c d : ℕ) → Leaves S H n t.0 b c d → (d ≡ t.0 → ⊥) → c ≡ t.0) where
     pub aside_none : ((d : ℕ) → Leaves S H n t.0 b t.0 d → ⊥) → IsLeastEdgeAside S H n t.0 b None
     aside_none none = λ c d e. elim (cases_eq d t.0) [ inl q ↦ q | inr ne ↦ absurd (none d (subst (λ (z : ℕ). Leaves S H n t.0 b z d) (mine c d e ne) e)) ]
@@ -62,7 +62,7 @@ module _ (S : Setup) (H : List Event) (n : ℕ) (t : Txn) (b : ℕ) where
     pub aside_own : (d : Txn) → IsTrue (one_batch S H n b t.0) → IsLeast (Leads S H n t.0 t.0) (Some d) → IsLeastEdgeAside S H n t.0 b (Some (t, d))
     aside_own d m h = (record { batch = m; out = h.0 }, λ c w e ne. subst (λ (z : ℕ). t.0 ≤ z) (sym (mine c w e ne)) (le_refl t.0), h.1)
 
--- with whether t has an edge into c's batch, the least that has one is known
+-- given whether t has an edge into c's batch, the least that has one is known
 module _ (S : Setup) (H : List Event) (n : ℕ) (t : Txn) (c : ℕ) where
   pub into_with : (known : Option Txn) (m : Txn) → IsLeastAside S H n t.0 c known → IsLeast (EntersAt S H n t.0 c) (Some m) → IsLeast (Reaches S H n t.0 c) (lesser_of known (Some t))
   into_with known m h k = go known h
@@ -88,12 +88,12 @@ module _ (S : Setup) (H : List Event) (n : ℕ) (t : Txn) (c : ℕ) where
       go None h = λ a r. never a r (h a r)
       go (Some u) h = (h.0, λ a r. h.1 a r (never a r))
 
-  -- to one that does not pass the test leads an edge from t alone
+  -- a transaction that does not pass the test has an edge from t only
   pub into_known : (p : ℕ → Bool) → ((a b : ℕ) → p b ≡ false → Leads S H n t.0 a b → a ≡ t.0) → (known : Option Txn) → IsLeast (ReachesOne S H n t.0 p c) known → IsLeastAside S H n t.0 c known
   into_known p only None h = λ a r. elim (cases_Bool (p r.member)) [ inl y ↦ absurd (h a (record { reach = r; passes = y })) | inr f ↦ only a r.member f r.edge ]
   into_known p only (Some u) h = (h.0.reach, λ a r ne. elim (cases_Bool (p r.member)) [ inl y ↦ h.1 a (record { reach = r; passes = y }) | inr f ↦ absurd (ne (only a r.member f r.edge)) ])
 
-  -- edges of others into the batch lead to t alone
+  -- edges of others into the batch lead to t only
   module _ (mine : (a b : ℕ) → IsTrue (one_batch S H n c b) → Leads S H n t.0 a b → (a ≡ t.0 → ⊥) → b ≡ t.0) where
     pub into_none : (one_batch S H n c t.0 ≡ false) → IsLeastAside S H n t.0 c None
     into_none f = λ a r. elim (cases_eq a t.0) [ inl q ↦ q | inr ne ↦ absurd (both_ways _ f (subst (λ (z : ℕ). IsTrue (one_batch S H n c z)) (mine a r.member r.batch r.edge ne) r.batch)) ]
@@ -114,7 +114,7 @@ module _ (S : Setup) (H : List Event) (n t b : ℕ) where
   IsMateOf u = IsTrue (one_batch S H n b u)
 
   module _ (l : Lawful S H) (o : IsOrderly S H) (runs : aborted H t ≡ false) where
-    -- whoever has put a cell is among its writers
+    -- a transaction that has put a cell is among its writers, so the least mate among them is the least mate that has put it
     pub mate_writers : (x : Cell) (p : Option Txn) → IsLeast (IsMateAmong S H n t b (writers_in S H n x)) p → IsLeast (IsMateByPut S H n t b x) p
     mate_writers x p h = least_as (IsMateAmong S H n t b (writers_in S H n x)) (IsMateByPut S H n t b x) p (λ u y. (puts_across S H n t l o runs t x u y.0, y.1))
         (λ u y. (listed_across S H n t l o runs t x u y.0, y.1)) h

@@ -1,4 +1,4 @@
--- The transactions of an ascending list from a number on.
+-- The transactions of an ascending list that are numbered from a number on.
 use Rattle.std.proofs.Common.{◌≡◌, ℕ, zero, suc, ◌-◌, ◌<◌, ◌≤◌, Bool, true, false, cond, not, ◌&&◌, ltb, leb, eqb, eq-eqb, lt-ltb, le-ltb, List, [], ◌∷◌, length, drop, filter, find, get_or, Some, refl, sym, ◌∙◌, ap, inl, inr, arith}
 use Rattle.std.specs.List.Sorted.{IsNonDecreasingBy, IsPartitionPoint}
 use Rattle.std.proofs.lemmas.Bool.{and_parts, both_ways, or_left, or_right, cases_lt}
@@ -38,7 +38,7 @@ leb_ltb : (t n : ℕ) (b : Bool) → ltb n t ≡ b → leb t n ≡ not b
 leb_ltb t n true h = grind (arith, nat_tests)
 leb_ltb t n false h = grind (arith, nat_tests)
 
--- whoever stands from the parting on is numbered t or above
+-- the members from the boundary on are those numbered t or above
 module _ (t : ℕ) where
   all_from : (xs : List Txn) → ((i : ℕ) (d : Txn) → i < length xs → ltb (get_or xs i d).0 t ≡ false) → xs ≡ filter (λ u. leb t u.0) xs
   all_from [] h = refl
@@ -52,7 +52,7 @@ module _ (t : ℕ) where
       rw (leb_ltb t x.0 true (h.0 zero x (omega arith) (omega arith)))
       (part_from xs k (omega arith) (λ i d a b. h.0 (suc i) d (omega arith) (omega arith), λ i d a b. h.1 (suc i) d (omega arith) (omega arith)))
 
--- where the one before place k is numbered below t, and the one there is not, those from t on start there
+-- if the member before place k is numbered below t and the one at k is not, those from t on start at k
 pub parts_at : (t : ℕ) (xs : List Txn) (k : ℕ) (e : Txn) → IsAscendingBy number_of xs → 0 < k → k ≤ length xs → (get_or xs (k - 1) e).0 < t → (k < length xs → t ≤ (get_or xs k e).0)
     → drop k xs ≡ filter (λ u. leb t u.0) xs
 parts_at t xs k e a p l below from = part_from t xs k l (λ i d s m. lt-ltb _ _ (before i d m), λ i d s m. le-ltb _ _ (behind i d s m))
@@ -70,7 +70,7 @@ parts_at t xs k e a p l below from = part_from t xs k l (λ i d s m. lt-ltb _ _ 
         let b = from (omega arith) in
         omega (arith, b, q, r)
 
--- a search finds the same among those that pass a test, where whom it finds passes
+-- a search in the filtered list finds the same, if every transaction that it can find passes the filter
 pub find_kept : (p r : Txn → Bool) (xs : List Txn) → ((x : Txn) → is_among x.0 xs ≡ true → p x ≡ true → r x ≡ true) → find p (filter r xs) ≡ find p xs
 find_kept p r [] h = refl
 find_kept p r (x ∷ xs) h = go (r x) refl (p x) refl (find_kept p r xs (λ y i. h y (or_right (eqb x.0 y.0) _ i)))
@@ -81,7 +81,7 @@ find_kept p r (x ∷ xs) h = go (r x) refl (p x) refl (find_kept p r xs (λ y i.
     go false e true f ih = absurd (both_ways _ e (h x (or_left (eqb x.0 x.0) _ (eq-eqb x.0 x.0 refl)) f))
     go false e false f ih = ih
 
--- whoever is of a batch that is not closed before t's starts is numbered from the horizon m of t on
+-- a writer whose batch is not closed before t's starts is numbered from t's horizon m on
 module _ (S : Setup) (H : List Event) (n m : ℕ) (x : Cell) (o : IsOrderly S H) (t : ℕ) (below : ClosedBelow S H n t m) (u : Txn) (a : is_among u.0 (writers_in S H n x) ≡ true) where
   late : not (ltb (close S H n u.0) (start S H n t)) ≡ true → leb m u.0 ≡ true
   late h = elim (cases_lt u.0 m) [
@@ -91,28 +91,28 @@ module _ (S : Setup) (H : List Event) (n m : ℕ) (x : Cell) (o : IsOrderly S H)
     | inr l ↦ leb_ltb m u.0 false (le-ltb _ _ l)
   ]
 
-  -- so is whoever wrote the cell first
+  -- a writer that comes first is numbered from m on
   first_late : comes_first S H n t u ≡ true → leb m u.0 ≡ true
   first_late h = late (and_parts (committed H u.0) (not (ltb (close S H n u.0) (start S H n t))) (and_parts (committed H u.0 && not (ltb (close S H n u.0) (start S H n t))) (meets S H n t u.0) h).0).1
 
-  -- and whoever is unfinished
+  -- so is an unfinished writer
   met_late : IsNumbered H → begun H t ≡ true → is_met S H n t u ≡ true → leb m u.0 ≡ true
   met_late k b h =
       let p = puts_parts S H n x u.0 (sym (among_writers S H n x u.0 o) ∙ a) in
       late (ap not (sym (still_open S H n u.0 t (sym (unfinished_open S H n u.0 k (and_parts (unfinished H u.0) (meets S H n t u.0) h).0 p.0)) b)))
 
--- the writers of a cell from the horizon m of t on
+-- the writers of a cell that are numbered from t's horizon m on
 module _ (f : Facts) (n m : ℕ) (x : Cell) (o : IsOrderly (setup_of f) (events_of f)) (ts : List Txn) (e : ts ≡ filter (λ u. leb m u.0) (writers_in (setup_of f) (events_of f) n x))
     (t : ℕ) (below : ClosedBelow (setup_of f) (events_of f) n t m) where
   found_later : (p : Txn → Bool) → ((u : Txn) → is_among u.0 (writers_in (setup_of f) (events_of f) n x) ≡ true → p u ≡ true → leb m u.0 ≡ true)
       → find p ts ≡ find p (writers_in (setup_of f) (events_of f) n x)
   found_later p only = ap (λ (us : List Txn). find p us) e ∙ find_kept p (λ u. leb m u.0) (writers_in (setup_of f) (events_of f) n x) only
 
-  -- the first one among them is the first one of all
+  -- the first of them that comes first is the first of all writers
   pub first_later : find (comes_first (setup_of f) (events_of f) n t) ts ≡ find (comes_first (setup_of f) (events_of f) n t) (writers_in (setup_of f) (events_of f) n x)
   first_later = found_later (comes_first (setup_of f) (events_of f) n t) (first_late (setup_of f) (events_of f) n m x o t below)
 
-  -- and so is the first unfinished one
+  -- the first unfinished one of them is the first of all writers
   pub met_later : IsNumbered (events_of f) → begun (events_of f) t ≡ true → find (is_met (setup_of f) (events_of f) n t) ts ≡ find (is_met (setup_of f) (events_of f) n t)
       (writers_in (setup_of f) (events_of f) n x)
   met_later k b = found_later (is_met (setup_of f) (events_of f) n t) (λ u a. met_late (setup_of f) (events_of f) n m x o t below u a k b)

@@ -1,4 +1,4 @@
--- Who has an edge to a committed transaction, by what it has read.
+-- The transactions that have an edge to a committed one, found by their reads.
 use Rattle.std.proofs.Common.{◌≡◌, ℕ, Bool, true, false, ◌&&◌, List, ℤ, Option, refl, sym, ◌∙◌}
 use Rattle.std.specs.List.{list_any}
 use Rattle.std.proofs.lemmas.Bool.{both_ways, and_parts, or_right, false_from_ne_true}
@@ -24,12 +24,12 @@ use Rattle.snapshot_node.proofs.AnyOf.{any_is, any_no, any_swap}
 use Rattle.snapshot_node.proofs.CellEdges.{edge_shared}
 use Rattle.snapshot_node.proofs.Edges.{gets_put, edge_found}
 
--- the event is a Got of a cell that a committed one across from a has put
+-- the event is a Got of a cell that a committed transaction across from a has put
 abbrev pub gets_overwritten : Setup → List Event → ℕ → ℕ → Event → Bool
 gets_overwritten S H n a (Got s x w v) = is_overwritten S H n a x
 gets_overwritten S H n a _ = false
 
--- the same by pairs
+-- the same by pairs of transactions
 by_pairs : (S : Setup) (H : List Event) (n a : ℕ) (e : Event) → gets_overwritten S H n a e ≡ list_any (λ b. is_beside S H n a b && gets_put H b e) (txns H)
 by_pairs S H n a (Got t x w v) = refl
 by_pairs S H n a (Began t s k i) = sym (any_no (is_beside S H n a) (txns H))
@@ -48,7 +48,7 @@ not_got S H n a (Done t) f = refl
 not_got S H n a (Gone t c) f = refl
 not_got S H n a (Told t) f = refl
 
--- a has an edge where one of its reads is of such a cell
+-- a has an edge if and only if one of its reads is of such a cell
 pub by_reads : (S : Setup) (f : TreeFacts S) (H : List Event) (n a : ℕ) → Lawful S H → (row S.tree n).control ≡ Snapshot → list_any (gets_overwritten S H n a) (own_events H a) ≡ has_edge S H n a
 by_reads S f H n a l c =
     (λ j. list_any (λ e. by_pairs S H n a e j) (own_events H a))
@@ -59,7 +59,7 @@ by_reads S f H n a l c =
     as_edge b true e = edge_found S f H n l c a b (not_aborted S H b l e)
     as_edge b false e = refl
 
--- a committed one from which no edge is marked has none
+-- a committed transaction without a mark of an edge from it has no edge
 pub unmarked : (S : Setup) (f : TreeFacts S) (H : List Event) (n a : ℕ) (ms : List Mark) → Lawful S H → IsOrderly S H → (row S.tree n).control ≡ Snapshot → AreMarked S H n ms → committed H a ≡ true
     → is_ahead ms (place_of_txn a) ≡ false → false ≡ has_edge S H n a
 unmarked S f H n a ms l o c m k none = sym (false_from_ne_true _ (λ q.

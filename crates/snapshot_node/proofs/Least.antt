@@ -5,7 +5,7 @@ use Rattle.teb_names.specs.declared.Txn.{Txn}
 use Rattle.batch_book.specs.Fields.{Has}
 use Rattle.snapshot_node.specs.Pivots.{IsLeast, lesser_of}
 
--- of two properties that hold of the same
+-- if two properties hold of the same numbers, their least is the same
 pub least_as : (P Q : ℕ → Type 0) (o : Option Txn) → ((u : ℕ) → P u → Q u) → ((u : ℕ) → Q u → P u) → IsLeast P o → IsLeast Q o
 least_as P Q None f g h = λ u q. h u (g u q)
 least_as P Q (Some t) f g h = (f t.0 h.0, λ u q. h.1 u (g u q))
@@ -24,12 +24,12 @@ pub lesser_none : (o : Option Txn) → lesser_of o None ≡ o
 lesser_none None = refl
 lesser_none (Some t) = refl
 
--- the property Q of some item of a list
+-- some item of a list has the property Q with u
 abbrev pub Along : {X : Type 0} → (X → ℕ → Type 0) → List X → ℕ → Type 0
 Along Q [] u = ⊥
 Along Q (x ∷ xs) u = Q x u ⊎ Along Q xs u
 
--- of two, the lesser number
+-- the lesser of two numbers
 lesser_number : ℕ → ℕ → ℕ
 lesser_number t u = cond (ltb u t) u t
 
@@ -73,7 +73,7 @@ lesser_twice a b = lesser_three a b b ∙ ap (lesser_of a) (itself b)
         go true = refl
         go false = refl
 
--- of a walk along a list, the items `left` are still to come: the lesser of the best so far and of the least by them is the least with P
+-- in a walk along a list: the lesser of the best so far and the least by the items `left`, still to come, is the least with P
 abbrev pub Remains : {X : Type 0} → (X → ℕ → Type 0) → (ℕ → Type 0) → List X → Option Txn → Type 0
 Remains Q P left best = (o : Option Txn) → IsLeast (Along Q left) o → IsLeast P (lesser_of best o)
 

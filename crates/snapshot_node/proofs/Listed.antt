@@ -44,13 +44,13 @@ in_among : (us : List ℕ) (u : ℕ) → In u us → is_among u (map as_txn us) 
 in_among [] u i = absurd i
 in_among (v ∷ vs) u i = elim i [ inl e ↦ or_left (eqb v u) _ (eq-eqb v u e) | inr j ↦ or_right (eqb v u) _ (in_among vs u j) ]
 
--- those that pass a test
+-- the transactions that pass a test
 module _ (p : ℕ → Bool) (H : List Event) where
   pub those_ascend : IsAscendingBy number_of (map as_txn (filter p (txns H)))
   unfolding txns
   those_ascend = ascending_txns _ (ascending-filter number p (numbers (begun_count H)) (numbers_ascending (begun_count H)))
 
-  -- a test that only they pass finds the same among all
+  -- a test that only they pass finds the same in their list as in the whole history
   module _ (q : ℕ → Bool) (r : Txn → Bool) (only : (u : ℕ) → q u ≡ true → p u ≡ true) (same : (u : ℕ) → p u ≡ true → q u ≡ r (as_txn u)) where
     finds_in : (us : List ℕ) → find r (map as_txn (filter p us)) ≡ some_txn (find q us)
     finds_in [] = refl
@@ -66,7 +66,7 @@ module _ (p : ℕ → Bool) (H : List Event) where
     pub finds : find r (map as_txn (filter p (txns H))) ≡ some_txn (find q (txns H))
     finds = finds_in (txns H)
 
-  -- each of whom has begun
+  -- each of them has begun
   module _ {S : Setup} (o : IsOrderly S H) (came : (u : ℕ) → p u ≡ true → begun H u ≡ true) where
     there : (u : ℕ) → p u ≡ true → In u (txns H)
     unfolding txns
@@ -78,11 +78,11 @@ module _ (p : ℕ → Bool) (H : List Event) where
       | inr e ↦ false_from_ne_true _ (λ k. both_ways _ e (filter-In p u (txns H) (among_in _ u k)).1) ∙ sym e
     ]
 
-    -- an ascending list in which they stand is the list of them
+    -- an ascending list with the same members is the list of them
     pub listed : (ts : List Txn) → IsAscendingBy number_of ts → ((u : ℕ) → is_among u ts ≡ p u) → ts ≡ map as_txn (filter p (txns H))
     listed ts a h = among_same ts _ a those_ascend (λ u. h u ∙ sym (among_those u))
 
--- whoever stands at a place of a list stands in it
+-- the element at a place of a list is a member of it
 pub at_among : (ts : List Txn) (i : ℕ) (d : Txn) → i < length ts → is_among (get_or ts i d).0 ts ≡ true
 at_among [] i d l = absurd (omega arith)
 at_among (t ∷ ts) zero d l = or_left _ _ (eq-eqb t.0 t.0 refl)
@@ -123,11 +123,11 @@ module _ (S : Setup) (H : List Event) (n : ℕ) (x : Cell) where
   pub readers_ascend : IsAscendingBy number_of (readers_in S H n x)
   readers_ascend = those_ascend (has_read_in S H n x) H
 
--- whoever has begun, with the node on its path, is here
+-- a transaction that has begun and has the node on its path is on the node
 pub here_from : (f : Facts) (n u : ℕ) → IsOrderly (setup_of f) (events_of f) → begun (events_of f) u ≡ true → on (setup_of f) (events_of f) n u ≡ true → IsHere f n u
 here_from f n u o b h = record { typed = typed_now f u o b; on = h }
 
--- so each of them is
+-- so each writer and each reader of a cell is on the node
 module _ (f : Facts) (n : ℕ) (x : Cell) (o : IsOrderly (setup_of f) (events_of f)) where
   pub writers_here : AreHere f n (writers_in (setup_of f) (events_of f) n x)
   writers_here u a =

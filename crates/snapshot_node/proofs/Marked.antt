@@ -1,4 +1,4 @@
--- The marks after one more event: those of edges that were there stay, and those at who is validated by the event are made.
+-- The marks after one more event: marks of earlier edges stay, and those of the transaction that the event validates are set.
 use Rattle.std.specs.Prelude.{IsTrue}
 use Rattle.std.proofs.Common.{◌≡◌, ℕ, zero, suc, ◌<◌, ◌≤◌, min, Bool, true, false, ◌||◌, eqb, ltb, List, [], ◌∷◌, ◌++◌, Some, refl, sym, ◌∙◌, ap, subst, inl, inr, arith, length, get_or, lt-ltb, le-ltb, ltb-true, length-append, le_refl, eqb-true}
 use Rattle.std.proofs.lemmas.Bool.{cases_lt, both_ways, and_parts, and_from, or_cases, or_left, or_right}
@@ -30,7 +30,7 @@ use Rattle.snapshot_node.specs.declared.marks.Mark.{Mark}
 use Rattle.snapshot_node.specs.Marks.{no_mark, is_entered, is_left, is_behind, is_ahead, validated_txn, HaveGrown, IsTold, Touches, AreMarked}
 use Rattle.snapshot_node.specs.Pivots.{is_at_stake}
 
--- who is prepared or committed was validated, and is not gone
+-- a transaction that is prepared or committed was validated and is not aborted
 vouched : (S : Setup) (H : List Event) (u : ℕ) → Lawful S H → IsSettled H u → IsVouched H u
 vouched S H u l h = elim (or_cases (prepared H u) (committed H u) h) [ inl p ↦ vouched_prepared H u p | inr d ↦ vouched_committed S H u l (commits_from H u d) ]
 
@@ -38,7 +38,7 @@ ready_before : (H : List Event) (u i : ℕ) → vouched_at H u < i → i ≤ don
 unfolding vouched_at
 ready_before H u i v d = omega arith
 
--- and has been prepared or committed since
+-- it has been prepared or committed since then
 settled_at : (S : Setup) (H : List Event) (i u : ℕ) → Lawful S H → i ≤ length H → IsVouched H u → vouched_at H u < i → IsSettled (upto i H) u
 settled_at S H i u l h v m =
     let b = (vouched_time S H u l v).0 in
@@ -75,7 +75,7 @@ concurrent_before S H i n u w l h bu bw ou ow c =
     let b : start S (upto i H) n w < close S (upto i H) n u = rw (start-upto S H i n w l h bw, close-upto S H i n u l h bu) (let z : start S H n w < min i (close S H n u) = omega arith in z) in
     and_from _ _ (lt-ltb _ _ a) (lt-ltb _ _ b)
 
--- two that were validated touched each other before
+-- two validated transactions touched each other before
 touches_before : (S : Setup) (H : List Event) (i n u w : ℕ) → Lawful S H → i ≤ length H → IsVouched H u → IsVouched H w → vouched_at H u < i → vouched_at H w < i → Touches S H n u w
     → Touches S (upto i H) n u w
 touches_before S H i n u w l h cu cw vu vw p =
@@ -107,7 +107,7 @@ by_done : (e : Event) (u : ℕ) → is_done u e ≡ true → (t : Txn) × (valid
 by_done (Done t) u h = (t, refl, eqb-true t.0 u h)
 by_done _ u h = absurd (cc)
 
--- who is validated by the newest event
+-- a transaction that was validated at the newest event is the one that this event validates
 by_newest : (e : Event) (P : List Event) (u : ℕ) → vouched_at (e ∷ P) u ≡ length P → (t : Txn) × (validated_txn e ≡ Some t) × (t.0 ≡ u)
 unfolding vouched_at ready_at done_at
 by_newest e P u h = elim (cases_lt (first_event (is_ready u) (e ∷ P)) (first_event (is_done u) (e ∷ P))) [
@@ -119,7 +119,7 @@ pub stake_settled : (H : List Event) (t u : ℕ) → IsSettled H u → is_at_sta
 stake_settled H t u h = elim (or_cases (prepared H u) (committed H u) h) [ inl p ↦ or_left (eqb u t || prepared H u) _ (or_right (eqb u t) _ p) | inr d ↦ or_right (eqb u t || prepared H u) _ d ]
 
 module _ (S : Setup) (e : Event) (P : List Event) (n : ℕ) (old ms : List Mark) (m : AreMarked S P n old) where
-  -- the marks have grown, and are made at who is validated by the event
+  -- the marks have grown, and those of the transaction that the event validates are set
   pub marked_next : suc (length P) ≤ length ms → ((i : ℕ) → IsTrue (is_left old i) → IsTrue (is_left ms i)) → ((i : ℕ) → IsTrue (is_entered old i) → IsTrue (is_entered ms i))
       → ((i : ℕ) → IsTrue (is_behind old i) → IsTrue (is_behind ms i)) → ((i : ℕ) → IsTrue (is_ahead old i) → IsTrue (is_ahead ms i))
       → ((t : Txn) → validated_txn e ≡ Some t → Lawful S (e ∷ P) → (u : ℕ) → IsSettled (e ∷ P) t.0 → IsSettled (e ∷ P) u → Touches S (e ∷ P) n t.0 u → IsTold S (e ∷ P) n ms t.0 u)
@@ -172,7 +172,7 @@ marked_none S H n ms e = subst (λ (G : List Event). AreMarked S G n ms) (sym e)
     none : {u : ℕ} → IsVouched [] u → ⊥
     none v = let z = v.vouched in absurd (omega arith)
 
--- who is validated by the newest event has begun
+-- a transaction that is validated by the newest event has begun
 pub validated_begun : (S : Setup) (P : List Event) (n : ℕ) (e : Event) (t : Txn) → MayNote S P n e → validated_txn e ≡ Some t → begun (e ∷ P) t.0 ≡ true
 validated_begun S P n (Ready s) t m h = let q : s ≡ t = cc in begun_step (Ready s) P t.0 ∙ subst (λ (z : Txn). begun P z.0 ≡ true) q (unfinished_parts P s.0 m).0
 validated_begun S P n (Done s) t m h = let q : s ≡ t = cc in begun_step (Done s) P t.0 ∙ subst (λ (z : Txn). begun P z.0 ≡ true) q (unfinished_parts P s.0 m).0
@@ -184,17 +184,17 @@ settled_stands S H u l h = elim (or_cases (prepared H u) (committed H u) h) [
   | inr c ↦ (unfold aborted in le-ltb _ _ (commits S H u l (commits_from H u c)).1)
 ]
 
--- what is known at a place is known there with one mark more
+-- a flag of the mark at a place stays set if one more mark is appended
 known_pushed : (known : Mark → Bool) → known no_mark ≡ false → (ms : List Mark) (x : Mark) (i : ℕ) → known (get_or ms i no_mark) ≡ true → known (get_or (ms ++ x ∷ []) i no_mark) ≡ true
 known_pushed known none [] x i h = absurd (both_ways _ none h)
 known_pushed known none (m ∷ ms) x zero h = h
 known_pushed known none (m ∷ ms) x (suc i) h = known_pushed known none ms x i h
 
--- the marks tell of the edges between t and u, either way
+-- the marks show the edges between t and u in both directions
 abbrev pub TellsOf : Setup → List Event → ℕ → List Mark → ℕ → ℕ → Type 0
 TellsOf S H n ms t u = (Touches S H n t u → IsTold S H n ms t u) × (Touches S H n u t → IsTold S H n ms u t)
 
--- one mark more, for the newest event, and then those that the event makes
+-- one more mark for the newest event, and then the marks that the event sets
 module _ (S : Setup) (H : List Event) (e : Event) (P : List Event) (h : H ≡ e ∷ P) (m n : ℕ) (same : m ≡ n) (old pushed ms : List Mark) (x : Mark) (push : pushed ≡ old ++ x ∷ [])
     (g : HaveGrown pushed ms) (marked : AreMarked S P n old) where
   pub marked_noted : ((t : Txn) → validated_txn e ≡ Some t → Lawful S H → (u : ℕ) → IsSettled H t.0 → IsSettled H u → TellsOf S H m ms t.0 u) → AreMarked S H m ms
@@ -210,7 +210,7 @@ module _ (S : Setup) (H : List Event) (e : Event) (P : List Event) (h : H ≡ e 
       (λ t q l u a b p. (tells t q l u a b).0 p)
       (λ t q l u a b p. (tells t q l u a b).1 p))
 
--- who is off the node touches nobody there
+-- a transaction that is not on the node touches none there
 pub tells_off : (S : Setup) (H : List Event) (n : ℕ) (ms : List Mark) (t u : ℕ) → on S H n t ≡ false → TellsOf S H n ms t u
 tells_off S H n ms t u f = (
   (λ p. absurd (both_ways _ f (meets_parts S H n t u (and_parts (meets S H n t u) (concurrent S H n t u) p.across).0).0)),

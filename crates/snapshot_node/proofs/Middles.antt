@@ -1,4 +1,4 @@
--- Whom an edge leads to, and whose batch an edge leaves: the middle of a pivot.
+-- The middle of a pivot: an edge leads to it, and an edge leaves its batch.
 use Rattle.std.proofs.Common.{◌≡◌, ℕ, Bool, true, false, List, [], ◌∷◌, inl, inr, Option, Some, None, is_some}
 use Rattle.teb_names.specs.declared.Cell.{Cell}
 use Rattle.teb_names.specs.declared.Txn.{Txn}
@@ -16,7 +16,7 @@ use Rattle.snapshot_node.proofs.Least.{least_as, Along}
 use Rattle.snapshot_node.proofs.Accessed.{accesses_of}
 use Rattle.snapshot_node.proofs.CellEdges.{Ahead, puts_across, listed_across, ahead_leads, leads_ahead}
 
--- what an option says of whether there is one
+-- is_some of an option says whether there is one
 pub least_some : (P : ℕ → Type 0) (o : Option Txn) (b : Bool) → b ≡ is_some o → b ≡ true → IsLeast P o → (u : ℕ) × P u
 least_some P None b e t h = absurd (cc)
 least_some P (Some u) b e t h = (u.0, h.0)
@@ -34,7 +34,7 @@ module _ (S : Setup) (H : List Event) (n t b : ℕ) where
   not_left None z e t h = h
   not_left (Some e) z q t h = absurd (cc)
 
--- along a list, R of whom some item has found
+-- along a list, R u can be stated with the item that has u, or apart from it
 module _ {X : Type 0} (A : X → ℕ → Type 0) (R : ℕ → Type 0) where
   abbrev pub Both : X → ℕ → Type 0
   Both x u = A x u × R u
@@ -48,7 +48,7 @@ module _ {X : Type 0} (A : X → ℕ → Type 0) (R : ℕ → Type 0) where
   both_to (x ∷ xs) u h r = elim h [ inl q ↦ inl (q, r) | inr k ↦ inr (both_to xs u k r) ]
 
 module _ (S : Setup) (H : List Event) (n t : ℕ) (l : Lawful S H) (o : IsOrderly S H) (runs : aborted H t ≡ false) where
-  -- one that has put a cell is the middle, and is among the writers of the cell
+  -- a middle that has put a cell is among the writers of the cell
   pub middle_writers : (a : ℕ) (x : Cell) (p : Option Txn) → IsLeast (IsMiddleAmong S H n t a (writers_in S H n x)) p → IsLeast (λ b. PutsAcross S H n t a x b × IsLeft S H n t b) p
   middle_writers a x p h =
       least_as (IsMiddleAmong S H n t a (writers_in S H n x)) (λ b. PutsAcross S H n t a x b × IsLeft S H n t b) p

@@ -1,4 +1,4 @@
--- A transaction is in no pivot where it has no edge, or has edges of one kind and none of others goes on from them.
+-- A transaction is in no pivot if it has no edge, or has edges in one direction only and no edge of others continues them.
 use Rattle.std.specs.Prelude.{IsTrue, IsFalse}
 use Rattle.std.proofs.Common.{◌≡◌, ◌≢◌, ℕ, true, false, ◌||◌, eqb, List, sym, ap, subst, inl, inr, eq-eqb, ◌∙◌}
 use Rattle.std.proofs.lemmas.Bool.{cases_eq, both_ways, or_left, or_right}
@@ -26,7 +26,7 @@ use Rattle.snapshot_node.proofs.CellEdges.{edge_shared}
 use Rattle.snapshot_node.proofs.Edges.{stake_stands}
 use Rattle.snapshot_node.proofs.Reach.{settled, with_t}
 
--- at stake, across from t, one of the transactions, and of a batch that is known to be left, or to be entered
+-- a transaction that is at stake, across from t, in a list, and of a batch that is marked as left, or as entered
 abbrev pub LeftAcross : Validation → List Txn → ℕ → Type 0
 LeftAcross v among b = at v IsAcross v.t.0 among b × IsTrue (is_marked_left v b)
 
@@ -35,45 +35,45 @@ EnteredAcross v among a = at v IsAcross v.t.0 among a × IsTrue (is_marked_enter
 
 module _ (S : Setup) (H : List Event) (n t : ℕ) (l : Lawful S H) (o : IsOrderly S H) (runs : aborted H t ≡ false) (i : IsSound S) (k : (row S.tree n).control ≡ Snapshot) (ms : List Mark)
     (m : AreMarked S H n ms) where
-  -- no edge leads from one to another of its batch
+  -- no edge leads from a transaction to one of its own batch
   apart : (b c : ℕ) → one_batch S H n b c ≡ true → edge S H n b c ≡ true → ⊥
   apart b c same e = (meets_parts S H n b c (edge_parts S H n b c e).0).2 (batch_parts S H n b c same).2
 
-  -- an edge of others is known
+  -- an edge between others is marked
   told : (u w : ℕ) → u ≢ t → w ≢ t → Leads S H n t u w → IsTold S H n ms u w
   told u w nu nw e =
       let p = edge_shared S H n t l o runs (tree_facts S i) k u w (stake_stands S H t w l runs e.to) e.edge in
       m.told l u w (settled H t u e.from nu) (settled H t w e.to nw) (record { cell = p.1.cell; read = p.1.read; put = p.1.put; across = p.0 })
 
-  -- who is not known to have an edge has at most one to t
+  -- a transaction without a mark of an edge from it has at most an edge to t
   pub leads_only : (c d : ℕ) → IsFalse (eqb c t || is_ahead ms (place_of_txn c)) → Leads S H n t c d → d ≡ t
   leads_only c d unknown e = elim (cases_eq d t) [
     | inl q ↦ q
     | inr nd ↦ absurd (both_ways _ unknown (or_right (eqb c t) _ (told c d (λ q. both_ways _ unknown (or_left _ (is_ahead ms (place_of_txn c)) (eq-eqb c t q))) nd e).ahead))
   ]
 
-  -- to one to whom nobody is known to have an edge t has one at most
+  -- a transaction without a mark of an edge to it has at most an edge from t
   pub led_to_only : (a b : ℕ) → IsFalse (eqb b t || is_behind ms (place_of_txn b)) → Leads S H n t a b → a ≡ t
   led_to_only a b unknown e = elim (cases_eq a t) [
     | inl q ↦ q
     | inr na ↦ absurd (both_ways _ unknown (or_right (eqb b t) _ (told a b na (λ q. both_ways _ unknown (or_left _ (is_behind ms (place_of_txn b)) (eq-eqb b t q))) e).behind))
   ]
 
-  -- where no edge is known to leave b's batch, only t has one out of it but to t
+  -- if b's batch is not marked as left, only t has an edge out of it other than to t
   pub left_only : (b : ℕ) → IsFalse (is_left ms (start S H n b)) → (c d : ℕ) → Leaves S H n t b c d → (d ≡ t → ⊥) → c ≡ t
   left_only b unknown c d e nd = elim (cases_eq c t) [
     | inl q ↦ q
     | inr nc ↦ absurd (both_ways _ unknown (subst (λ (z : ℕ). IsTrue (is_left ms z)) (sym (batch_parts S H n b c e.batch).3) (told c d nc nd e.out).left))
   ]
 
-  -- where no edge is known to lead into c's batch, those of others lead to t
+  -- if c's batch is not marked as entered, the edges of others into it lead to t
   pub entered_only : (c : ℕ) → IsFalse (is_entered ms (start S H n c)) → (a b : ℕ) → IsTrue (one_batch S H n c b) → Leads S H n t a b → (a ≡ t → ⊥) → b ≡ t
   entered_only c unknown a b batch e na = elim (cases_eq b t) [
     | inl q ↦ q
     | inr nb ↦ absurd (both_ways _ unknown (subst (λ (z : ℕ). IsTrue (is_entered ms z)) (sym (batch_parts S H n c b batch).3) (told a b na nb e).entered))
   ]
 
-  -- nobody comes first in a pivot
+  -- no transaction comes first in a pivot
   abbrev None : Type 0
   None = (a : ℕ) → IsFirst S H n t a → ⊥
 
@@ -87,7 +87,7 @@ module _ (S : Setup) (H : List Event) (n t : ℕ) (l : Lawful S H) (o : IsOrderl
       (λ e. from d (subst (λ (z : ℕ). Leads S H n t z d) e p.out.out))
       (λ e. to c (subst (λ (z : ℕ). Leads S H n t c z) e p.out.out)))
 
-  -- where edges lead only from t
+  -- edges lead only from t
   pub none_ahead : ((a : ℕ) → Leads S H n t a t → ⊥) → IsFalse (is_entered ms (start S H n t)) → ((b : ℕ) → Leads S H n t t b → IsTrue (is_left ms (start S H n b)) → ⊥) → None
   none_ahead to enter left = along (λ a b c d p.
       let same = p.out.batch in
@@ -111,7 +111,7 @@ module _ (S : Setup) (H : List Event) (n t : ℕ) (l : Lawful S H) (o : IsOrderl
       ])
       (λ e. to c (subst (λ (z : ℕ). Leads S H n t c z) e g)))
 
-  -- where edges lead only to t
+  -- edges lead only to t
   pub none_behind : ((b : ℕ) → Leads S H n t t b → ⊥) → IsFalse (is_left ms (start S H n t)) → ((a : ℕ) → Leads S H n t a t → IsTrue (is_entered ms (start S H n a)) → ⊥) → None
   none_behind from leave entered = along (λ a b c d p.
       let same = p.out.batch in

@@ -1,4 +1,4 @@
--- What a snapshot control stands for after one more event.
+-- What a snapshot control represents after one more event.
 use Rattle.std.proofs.Common.{◌≡◌, ℕ, ℤ, suc, ◌+◌, ◌<◌, ◌≤◌, Bool, true, false, cond, not, eqb, ◌&&◌, ◌||◌, List, ◌∷◌, Option, drop, length, refl, sym, ◌∙◌, ap, subst, eq-eqb}
 use Rattle.teb_names.specs.declared.Cell.{Cell}
 use Rattle.teb_names.specs.declared.Txn.{Txn}
@@ -36,11 +36,11 @@ may_come S P n (Done t) m = m
 may_come S P n (Gone t c) m = m
 may_come S P n (Told t) m = tt
 
--- the newest event stands at the place before the end
+-- the newest event is at the last place
 pub newest_place : (H : List Event) (e : Event) → H ≡ e ∷ drop 1 H → length H ≡ suc (length (drop 1 H))
 newest_place H e i = ap (λ (G : List Event). length G) i
 
--- lists that stay ascend as before
+-- lists that stay the same still ascend
 pub filed_kept : (a a' : Shown) → AreKept (readers_of a) (readers_of a') → AreKept (writers_of a) (writers_of a') → AreKept (committed_of a) (committed_of a') → AreFiled a → AreFiled a'
 filed_kept a a' r w d f = record {
   readers = λ x. subst (IsAscendingBy number_of) (sym (r x)) (f.readers x);
@@ -49,24 +49,24 @@ filed_kept a a' r w d f = record {
 }
 
 module _ (S : Setup) (P : List Event) (n : ℕ) (b : Book) (a : Shown) (old : SnapshotStand n b a S P) where
-  -- with what shows the history with e
+  -- the control represents the history with e, given batches and accesses that do
   made : (e : Event) (b' : Book) (a' : Shown) → MayNote S P n e → b'.size ≡ b.size → BatchesOf b' S (e ∷ P) n → AreFiled a'
       → ((x : Cell) (u : ℕ) → is_accessor (readers_of a') x u ≡ has_read_in S (e ∷ P) n x u) → ((x : Cell) (u : ℕ) → is_accessor (writers_of a') x u ≡ has_put_in S (e ∷ P) n x u)
       → a'.begun ≡ begun_count (e ∷ P) → ((u : ℕ) → touched_of a' u ≡ touched_at S (e ∷ P) n u) → SnapshotStand n b' a' S (e ∷ P)
   made e b' a' m z h f r w c t = record { kind = old.kind; size = z ∙ old.size; orderly = orderly_next S P n e m old.orderly; batches = h; filed = f; read = r; put = w; begun = c; touched = t }
 
-  -- whoever is unfinished has joined exactly where the node is on his path
+  -- an unfinished transaction has joined if and only if the node is on its path
   pub here : (t : ℕ) → unfinished P t ≡ true → on S P n t ≡ has_joined b t
   here t u = on_joined b S P n t old.batches (unfinished_parts P t u).0
 
-  -- and is numbered among those that have begun
+  -- it is numbered among the transactions that have begun
   pub numbered : (t : ℕ) → unfinished P t ≡ true → (0 < t) × (t ≤ a.begun)
   numbered t u = let z = old.orderly.numbered t (unfinished_parts P t u).0 in (z.0, subst (λ (c : ℕ). t ≤ c) (sym old.begun) z.1)
 
   passed : (e : Event) → MayNote S P n e → Passes S P n e → BatchesOf b S (e ∷ P) n
   passed e m q = batches_passed b S P n e old.batches (may_come S P n e m) q
 
-  -- with the same accesses, and the same book of them
+  -- an event that leaves all accesses at the node, and the book of them, as they were
   kept : (e : Event) → is_began_event e ≡ false → MayNote S P n e → Passes S P n e → ((x : Cell) (u : ℕ) → has_read_in S (e ∷ P) n x u ≡ has_read_in S P n x u)
       → ((x : Cell) (u : ℕ) → has_put_in S (e ∷ P) n x u ≡ has_put_in S P n x u) → ((u : ℕ) → touched_at S (e ∷ P) n u ≡ touched_at S P n u) → SnapshotStand n b a S (e ∷ P)
   kept e c m q r w t = made e b a m refl (passed e m q) old.filed (λ x u. old.read x u ∙ sym (r x u)) (λ x u. old.put x u ∙ sym (w x u)) (old.begun ∙ sym (count_kept e P c))
@@ -125,7 +125,7 @@ module _ (S : Setup) (P : List Event) (n : ℕ) (b : Book) (a : Shown) (old : Sn
     pub began_new : IsNew b t.0
     began_new = next_new b S P n t.0 old.batches m.0
 
-    -- the book of accesses has noted it too
+    -- the book of accesses has noted the event too
     module _ (a' : Shown) (r : AreKept (readers_of a) (readers_of a')) (w : AreKept (writers_of a) (writers_of a')) (d : AreKept (committed_of a) (committed_of a'))
         (z : (u : ℕ) → touched_of a' u ≡ touched_of a u) (c : a'.begun ≡ a.begun + 1) where
       began : (b' : Book) → b'.size ≡ b.size → BatchesOf b' S (Began t s k i ∷ P) n → SnapshotStand n b' a' S (Began t s k i ∷ P)
@@ -163,6 +163,6 @@ module _ (S : Setup) (P : List Event) (n : ℕ) (b : Book) (a : Shown) (old : Sn
         (λ x u. w x u ∙ (λ j. old.put x u j && not ((ap (any_puts x) (old.touched t.0) ∙ puts_at S P n t.0 x) j && eqb t.0 u)) ∙ gone_put S P n t c x u m)
         (d ∙ old.begun ∙ sym (count_kept (Gone t c) P refl)) (λ u. k u ∙ old.touched u ∙ sym (still_touched S P n (Gone t c) u refl (λ es. refl)))
 
--- t has begun by the newest event
+-- the newest event is t's Began
 pub began_begun : (P : List Event) (t : Txn) (s : Session) (k : Kind) (i : ℕ) → begun (Began t s k i ∷ P) t.0 ≡ true
 began_begun P t s k i = begun_step (Began t s k i) P t.0 ∙ ap (λ (b : Bool). b || begun P t.0) (eq-eqb t.0 t.0 refl)

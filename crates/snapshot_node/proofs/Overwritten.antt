@@ -1,5 +1,5 @@
--- Who has put a cell, and is across from one who has read it. The batches of the writers of one cell lie one behind the other, in
--- the order in which the writers are numbered, so the last committed one that starts before the reader's closes tells.
+-- Which transactions have put a cell and are across from a reader of it. The batches of a cell's writers follow one another in the
+-- order of the writers' numbers, so it is enough to test the last committed writer that starts before the reader's batch closes.
 use Rattle.std.proofs.Common.{◌≡◌, ◌≢◌, ◌⊎◌, ℕ, suc, ◌+◌, ◌<◌, ◌≤◌, true, false, ◌&&◌, List, length, get_or, sym, ap, ◌∙◌, inl, inr, arith, ltb-true, lt-ltb}
 use Rattle.std.proofs.lemmas.Bool.{cases_eq, cases_lt, cases_order, cases_Bool, both_ways, and_parts, and_from, or_cases, or_right, false_from_ne_true, ltb-false}
 use Rattle.std.proofs.lemmas.List.{get_or-take, get_or_default, length-take}
@@ -46,7 +46,7 @@ concurrent_from : (S : Setup) (H : List Event) (n a b : ℕ) → start S H n a <
 unfolding concurrent
 concurrent_from S H n a b e f = and_from _ _ (lt-ltb _ _ e) (lt-ltb _ _ f)
 
--- whoever is numbered no higher has begun no later
+-- of two transactions, the one with the lower number did not begin later
 numbered_began : (S : Setup) (H : List Event) (u w : ℕ) → Lawful S H → began_at H u < length H → began_at H w < length H → u ≤ w → began_at H u ≤ began_at H w
 numbered_began S H u w l bu bw le =
     let j = suc (began_at H w) in
@@ -68,7 +68,7 @@ module _ (S : Setup) (H : List Event) (n : ℕ) (l : Lawful S H) (c : (row S.tre
   began : (t : ℕ) (x : Cell) → Writer x t → began_at H t < length H
   began t x w = let z = (put_order S H t x l w.put).0 in let y = w.put in omega arith
 
-  -- of two sides, the earlier writer's batch is closed before the later one's starts
+  -- of two writers of different sides, the earlier one's batch is closed before the later one's starts
   earlier_closed : (u w : ℕ) (x : Cell) → meets S H n u w ≡ true → Writer x u → Writer x w → put_at H w x < put_at H u x → close S H n w < start S H n u
   earlier_closed u w x m pu pw e =
       let h = pu.put in
@@ -79,7 +79,7 @@ module _ (S : Setup) (H : List Event) (n : ℕ) (l : Lawful S H) (c : (row S.tre
       (let y = ow.0 in let z : began_at H w < put_at H u x = omega arith in z) e
       (let z : put_at H u x ≤ gone_at H w = omega arith in z)).1
 
-  -- two writers are of one batch, or one's batch is closed before the other's starts
+  -- two writers are of one batch, or the batch of one is closed before the other's starts
   one_or_behind : (u w : ℕ) (x : Cell) → Writer x u → Writer x w → ((side S H n u ≡ side S H n w) × (start S H n u ≡ start S H n w))
       ⊎ ((close S H n u < start S H n w) ⊎ (close S H n w < start S H n u))
   one_or_behind u w x pu pw = elim (cases_eq (side S H n u) (side S H n w)) [
@@ -94,7 +94,7 @@ module _ (S : Setup) (H : List Event) (n : ℕ) (l : Lawful S H) (c : (row S.tre
         ])
   ]
 
-  -- the batch of the one that is numbered higher starts no earlier
+  -- the batch of the higher-numbered writer does not start earlier
   in_order : (u w : ℕ) (x : Cell) → Writer x u → Writer x w → u ≤ w → start S H n u ≤ start S H n w
   in_order u w x pu pw le =
       let bu = began u x pu in
@@ -114,7 +114,7 @@ module _ (S : Setup) (H : List Event) (n : ℕ) (l : Lawful S H) (c : (row S.tre
     abbrev all : List Txn
     all = writers_in S H n x
 
-    -- whoever counts is not aborted
+    -- a transaction that counts is not aborted
     stands : (u : ℕ) → counts H u ≡ true → length H ≤ gone_at H u
     unfolding aborted
     stands u h = elim (or_cases (unfinished H u) (committed H u) h) [
@@ -131,7 +131,7 @@ module _ (S : Setup) (H : List Event) (n : ℕ) (l : Lawful S H) (c : (row S.tre
         in_order (get_or all i d).0 (get_or all j d).0 x (writer_of _ (at_among all i d (let z : i < length all = omega arith in z))) (writer_of _ (at_among all j d low))
         (numbers_rise all (writers_ascend S H n x) i j d le low)
 
-    -- so where the writer at place m starts before position i, all up to there do, and else none from there on does
+    -- so if the writer at place m starts before position i, all up to m do; if it does not, none from m on does
     module _ (m : ℕ) (low : m < length all) (e : Txn) (i : ℕ) where
       at_default : (d : Txn) → start S H n (get_or all m e).0 ≡ start S H n (get_or all m d).0
       at_default d = ap (λ (u : Txn). start S H n u.0) (get_or_default all m e d low)
@@ -142,7 +142,7 @@ module _ (S : Setup) (H : List Event) (n : ℕ) (l : Lawful S H) (c : (row S.tre
       pub all_behind : i ≤ start S H n (get_or all m e).0 → (j : ℕ) (d : Txn) → m ≤ j → j < length all → i ≤ start S H n (get_or all j d).0
       all_behind h j d le lt = let y = starts_rise m j d le lt in let z = at_default d in omega arith
 
-    -- those whose batches start before that of a, which is here, closes
+    -- the writers whose batches start before the batch of a closes
     module _ (a : ℕ) (ba : began_at H a < length H) (oa : on S H n a ≡ true) (d : Txn) (us : List Txn) (s : AreStarted S H n x (close S H n a) us) where
       -- b is committed, across from a, and has put x
       abbrev IsBeside : ℕ → Type 0
@@ -204,7 +204,7 @@ module _ (S : Setup) (H : List Event) (n : ℕ) (l : Lawful S H) (c : (row S.tre
         writer : Writer x t
         writer = writer_of t (started_among i low)
 
-        -- it is across from a where anybody is
+        -- if some transaction is beside a and has put x, this one is across from a
         across : (b : ℕ) → Beside b → is_across S H n a t ≡ true
         across b k =
             let le : k.place ≤ i = elim (cases_lt i k.place) [ inl z ↦ absurd (both_ways _ (last k.place d z k.within) (ap (committed H) k.is ∙ k.committed)) | inr z ↦ z ] in

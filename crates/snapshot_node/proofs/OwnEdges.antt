@@ -43,19 +43,19 @@ module _ (v : Validation) (u : ℕ) where
   facts : TreeFacts S
   facts = tree_facts S v.tree
 
-  -- those to whom u has an edge
+  -- the least transaction to which u has an edge
   abbrev pub AheadIn : List Touched → Option Txn → Type 0
   AheadIn left best = Remains (at v Ahead u) (at v Leads u) left best
 
-  -- those that have an edge to u
+  -- the least transaction that has an edge to u
   abbrev pub BehindIn : List Touched → Option Txn → Type 0
   BehindIn left best = Remains (at v Behind u) (λ a. at v Leads a u) left best
 
-  -- where nothing was found, none to whom u is known to have an edge by the accesses passed is of a batch that is known to be left
+  -- if nothing was found, no transaction to which u has an edge by a visited access is of a batch that is marked as left
   abbrev pub LeftIn : Bool → List Touched → Type 0
   LeftIn z left = IsFalse z → Covers (at v Ahead u) (λ b. IsTrue (is_marked_left v b) → ⊥) (accesses_of H u) left
 
-  -- the same of those that have an edge to u, and of batches that are known to be entered
+  -- the same for transactions that have an edge to u, and batches that are marked as entered
   abbrev pub EnteredIn : Bool → List Touched → Type 0
   EnteredIn z left = IsFalse z → Covers (at v Behind u) (λ a. IsTrue (is_marked_entered v a) → ⊥) (accesses_of H u) left
 
@@ -79,16 +79,16 @@ module _ (v : Validation) (u : ℕ) where
     behind_end e h = remains_end (at v Behind u) (λ a. at v Leads a u) left best e h
 
     module _ (x : Cell) (rest : List Touched) where
-      -- only what u reads leads on
+      -- only a read of u gives an edge from u
       pub ahead_skip : left ≡ Puts x ∷ rest → AheadIn left best → AheadIn rest best
       ahead_skip i h = remains_skip (at v Ahead u) (at v Leads u) (Puts x) left rest best i h (λ d q. q)
 
-      -- and only what it puts leads to it
+      -- only a put of u gives an edge to u
       pub behind_skip : left ≡ Reads x ∷ rest → BehindIn left best → BehindIn rest best
       behind_skip i h = remains_skip (at v Behind u) (λ a. at v Leads a u) (Reads x) left rest best i h (λ a q. q)
 
   module _ (x : Cell) (left rest : List Touched) (us : List Txn) (best o : Option Txn) (h : IsLeast (at v IsAcross u us) o) where
-    -- u has read x, and the least of its recent writers comes to the best
+    -- u has read x: the least of its recent writers is compared with the best
     pub ahead_next : left ≡ Reads x ∷ rest → AreLate v.asked u (there v.asked writers_in x) us → AheadIn left best → AheadIn rest (lesser_of best o)
     ahead_next e late r =
         remains_next (at v Ahead u) (at v Leads u) (Reads x) left rest best o e r
@@ -96,7 +96,7 @@ module _ (v : Validation) (u : ℕ) where
         (puts_across S H n v.t.0 v.lawful v.asked.stands.orderly runs u x) (listed_across S H n v.t.0 v.lawful v.asked.stands.orderly runs u x)
         (least_recent v.asked u (writers_in S H n x) us late (writers_here v.asked.facts.now n x v.asked.stands.orderly) v.t.0 o h))
 
-    -- u has put x, and the least of its recent readers comes to the best
+    -- u has put x: the least of its recent readers is compared with the best
     pub behind_next : left ≡ Puts x ∷ rest → AreLate v.asked u (there v.asked readers_in x) us → BehindIn left best → BehindIn rest (lesser_of best o)
     behind_next e late r =
         remains_next (at v Behind u) (λ b. at v Leads b u) (Puts x) left rest best o e r

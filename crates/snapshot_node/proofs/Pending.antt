@@ -1,4 +1,4 @@
--- How many Puts are pending after one more event.
+-- The number of pending Puts after one more event.
 use Rattle.std.proofs.Common.{◌≡◌, ℕ, ◌+◌, Bool, true, false, cond, not, eqb, ◌&&◌, ◌||◌, List, [], ◌∷◌, filter, refl, sym, ◌∙◌, ap, arith, eqb-true, eq-eqb, ne_eqb}
 use Rattle.std.specs.List.{count_by}
 use Rattle.std.proofs.lemmas.Bool.{and_from, both_ways, or_parts, false_from_ne_true}
@@ -25,7 +25,7 @@ use Rattle.version_chain.proofs.Cells.{same_cell-itself}
 pub count_step : {A : Type 0} (p : A → Bool) (a : A) (xs : List A) → count_by p (a ∷ xs) ≡ cond (p a) 1 0 + count_by p xs
 count_step p a xs = sum_by-cons (λ b. cond (p b) 1 0) a xs
 
--- each event that has p has one of q and r
+-- if each event that has p has exactly one of q and r, the counts add up
 count_both : (p q r : Event → Bool) → ((e : Event) → cond (p e) 1 0 ≡ cond (q e) 1 0 + cond (r e) 1 0) → (P : List Event) → count_by p P ≡ count_by q P + count_by r P
 count_both p q r h [] = refl
 count_both p q r h (e ∷ P) = omega (arith, count_step p e P, count_step q e P, count_step r e P, h e, count_both p q r h P)
@@ -40,7 +40,7 @@ count_own t [] = refl
 count_own t (e ∷ P) = omega (arith, count_step (λ e. is_of t e && is_any_put e) e P, count_own t P, count_cons is_any_put (is_of t e) e (filter (is_of t) P))
 
 module _ (S : Setup) (P : List Event) (n : ℕ) where
-  -- an event that neither begins nor finishes anybody
+  -- an event that begins or finishes no transaction
   module _ (e : Event) (b : (u : ℕ) → is_began u e ≡ false) (d : (u : ℕ) → is_done u e ≡ false) (g : (u : ℕ) → is_gone u e ≡ false) where
     passed : pending_in S (e ∷ P) n ≡ cond (is_pending S (e ∷ P) n e) 1 0 + pending_in S P n
     passed = count_step (is_pending S (e ∷ P) n) e P ∙ (λ j. cond (is_pending S (e ∷ P) n e) 1 0 + count_by (λ x. same x j) P)
@@ -55,7 +55,7 @@ module _ (S : Setup) (P : List Event) (n : ℕ) where
     pub pending_more : is_pending S (e ∷ P) n e ≡ true → pending_in S (e ∷ P) n ≡ pending_in S P n + 1
     pending_more h = omega (arith, passed, ap {B = ℕ} (λ (z : Bool). cond z 1 0) h)
 
-  -- t begins, and has put nothing yet
+  -- t begins; it has put nothing yet
   pub pending_began : (t : Txn) (s : Session) (k : Kind) (i : ℕ) → ((x : Cell) → wrote P t.0 x ≡ false) → pending_in S (Began t s k i ∷ P) n ≡ pending_in S P n
   pending_began t s k i none = omega (arith, count_step (is_pending S (e ∷ P) n) e P, along P none)
     where
@@ -127,7 +127,7 @@ module _ (S : Setup) (P : List Event) (n : ℕ) where
       ap {B = ℕ} (λ (z : Bool). cond z 1 0) none,
     )
 
--- t, which is unfinished, is so no more
+-- t, which was unfinished, is finished
 pub ends_done : (P : List Event) (t : Txn) (u : ℕ) → unfinished (Done t ∷ P) u ≡ (unfinished P u && not (eqb t.0 u))
 ends_done P t u = unfinished_step (Done t) P u ∙ out (begun P u) (committed P u) (aborted P u) (eqb t.0 u) ∙ ap (λ (z : Bool). z && not (eqb t.0 u)) (sym (unfinished_is P u))
   where

@@ -1,4 +1,4 @@
--- Who has read a cell and is not aborted, after one more event.
+-- The readers of a cell that are not aborted, after one more event.
 use Rattle.std.proofs.Common.{◌≡◌, ℕ, ℤ, suc, Bool, true, false, not, eqb, ◌&&◌, ◌||◌, List, ◌∷◌, Option, refl, sym, ◌∙◌, ap, inl, inr, eqb-true}
 use Rattle.std.proofs.lemmas.Bool.{cases_Bool, and_right}
 use Rattle.teb_names.specs.declared.Txn.{Txn}
@@ -23,12 +23,12 @@ use Rattle.snapshot_node.specs.Standing.{has_read_in}
 got_kept : (e : Event) (P : List Event) (u : ℕ) (x : Cell) → is_got u x e ≡ false → got (e ∷ P) u x ≡ got P u x
 got_kept e P u x h = got-cons e P u x ∙ ap (λ (b : Bool). b || got P u x) h
 
--- an event that is none of u's Began, Got and Gone
+-- an event that is none of u's Began, Got and Gone changes nothing for u
 pub still_read : (S : Setup) (P : List Event) (n : ℕ) (e : Event) (x : Cell) (u : ℕ) → is_began u e ≡ false → is_got u x e ≡ false → is_gone u e ≡ false
     → has_read_in S (e ∷ P) n x u ≡ has_read_in S P n x u
 still_read S P n e x u b g a = (λ j. on_kept S e P n u b j && not (aborted_kept e P u a j) && got_kept e P u x g j)
 
--- t begins, and has read nothing yet
+-- t begins; it has read nothing yet
 pub began_read : (S : Setup) (P : List Event) (n : ℕ) (t : Txn) (s : Session) (k : Kind) (i : ℕ) → IsOrderly S P → t.0 ≡ suc (begun_count P) → (x : Cell) (u : ℕ)
     → has_read_in S (Began t s k i ∷ P) n x u ≡ has_read_in S P n x u
 began_read S P n t s k i o new x u = elim (cases_Bool (eqb t.0 u)) [
@@ -76,7 +76,7 @@ module _ (S : Setup) (P : List Event) (n : ℕ) (t : Txn) (y : Cell) (w : Txn) (
           (λ j. (h j && not (aborted P u)) && ((true && same_cell y x) || got P u x)) ∙ (λ j. (sym h j && not (aborted P u)) && got P u x)
       go false q = refl
 
--- t aborts, and counts as a reader no more
+-- t aborts and no longer counts as a reader
 pub gone_read : (S : Setup) (P : List Event) (n : ℕ) (t : Txn) (c : Cause) (x : Cell) (u : ℕ) → (has_read_in S P n x u && not ((on S P n t.0 && got P t.0 x) && eqb t.0 u)) ≡ has_read_in S
     (Gone t c ∷ P) n x u
 gone_read S P n t c x u = go (eqb t.0 u) refl

@@ -1,4 +1,4 @@
--- At a snapshot node, whoever reads a cell that somebody of a concurrent batch of another side puts has read a version before his.
+-- At a snapshot node, a reader of a cell that a concurrent batch of another side puts has read an earlier version.
 use Rattle.std.proofs.Common.{◌≡◌, ◌≢◌, ℕ, ◌<◌, ◌≤◌, true, false, ltb, List, Option, refl, sym, ◌∙◌, ap, subst, inl, inr, arith, ℤ, length, lt-ltb, ltb-true}
 use Rattle.std.proofs.lemmas.Bool.{cases_lt, cases_eq, cases_Bool}
 use Rattle.teb_names.specs.declared.Txn.{Txn}
@@ -53,7 +53,7 @@ module _ (S : Setup) (a : TreeFacts S) (H : List Event) (n : ℕ) (l : Lawful S 
       snapshot_sees : (P : List Event) (t w : ℕ) (x : Cell) → sees_by (row S.tree n).control S P n x t w ≡ ltb (close S P n w) (start S P n t)
       snapshot_sees P t w x = unfold sees_by in rw c refl
 
-  -- a read of x by r at position i, from w; b puts x and is concurrent with r
+  -- r read x at position i from w; b puts x and is concurrent with r
   module _ (i : ℕ) (r : Txn) (x : Cell) (w : Txn) (v : Option ℤ) (b : ℕ) (g : GotAt H i r x w v) (m : meets S H n r.0 b ≡ true) (p : put_at H b x < length H) (gb : length H ≤ gone_at H b)
       (c1 : start S H n r.0 < close S H n b) (c2 : start S H n b < close S H n r.0) where
     place : i < length H
@@ -71,7 +71,7 @@ module _ (S : Setup) (a : TreeFacts S) (H : List Event) (n : ℕ) (l : Lawful S 
     here : (on S H n r.0 ≡ true) × (on S H n b ≡ true) × (side S H n r.0 ≢ side S H n b)
     here = meets_parts S H n r.0 b m
 
-    -- it read its own version
+    -- r read its own version
     own : put_at H r.0 x < i → precedes S H x r.0 b ≡ true
     own q =
         let y = g.place in
@@ -81,7 +81,7 @@ module _ (S : Setup) (a : TreeFacts S) (H : List Event) (n : ℕ) (l : Lawful S 
           | inr e ↦ (let d = put_differs H r.0 b x (λ e2. here.2 (ap (side S H n) e2)) h in by_put n r.0 b x br bb m not_stamps (omega arith))
         ]
 
-    -- it saw w's, where r and w are on different sides
+    -- r saw w's version, if r and w are on different sides
     module _ (bw : began_at H w.0 < i) (pw : put_at H w.0 x < i) (seen : meets S H n r.0 w.0 ≡ true → close S H n w.0 < start S H n r.0) where
       bw_all : began_at H w.0 < length H
       bw_all = let y = g.place in omega arith
@@ -112,7 +112,7 @@ module _ (S : Setup) (a : TreeFacts S) (H : List Event) (n : ℕ) (l : Lawful S 
                 ])
           ]
 
-      -- w and b meet at m, below n, and so are of one side of n
+      -- w and b meet at a node below n, and so are of one side of n
       below : (k : ℕ) → meets S H k w.0 b ≡ true → among n (front_of S a k) ≡ true → precedes S H x w.0 b ≡ true
       below k mk i2 =
           let kp = meets_parts S H k w.0 b mk in

@@ -1,4 +1,4 @@
--- Whoever is across from a transaction is among those of a list from its horizon on.
+-- The transactions across from a given one are in the part of a list from its horizon on.
 use Rattle.std.proofs.Common.{◌≡◌, ℕ, true, List, Option, leb, sym, ◌∙◌, ap, subst}
 use Rattle.teb_names.specs.declared.Txn.{Txn}
 use Rattle.teb_history.specs.Ascending.{IsAscendingBy}
@@ -14,7 +14,7 @@ use Rattle.snapshot_node.proofs.Edges.{across_later}
 use Rattle.snapshot_node.proofs.FirstOf.{among_from}
 use Rattle.snapshot_node.proofs.Least.{least_as}
 
--- what is known by one control, one transaction and one list is known by the same
+-- the same fact, stated for an equal control, transaction and list
 pub late_as : {a b : Asked} {t u : Txn} {those all us : List Txn} → b ≡ a → u ≡ t → all ≡ those → AreLate b u.0 all us → AreLate a t.0 those us
 late_as {a} {b} {t} {u} {those} {all} {us} e k i h =
     subst (λ (xs : List Txn). AreLate a t.0 xs us) i (subst (λ (z : Asked). AreLate z t.0 all us) e (subst (λ (z : Txn). AreLate b z.0 all us) k h))
@@ -29,7 +29,7 @@ module _ (a : Asked) (t : ℕ) (all us : List Txn) (late : AreLate a t all us) w
   pub late_here : AreThere a all → AreThere a us
   late_here h u i = h u (among_all u i)
 
-  -- w validates
+  -- w is the validating transaction
   module _ (here : AreThere a all) (w : ℕ) where
     pub across_recent : (u : ℕ) → there a IsAcross w t all u → there a IsAcross w t us u
     across_recent u h = record {
@@ -42,7 +42,7 @@ module _ (a : Asked) (t : ℕ) (all us : List Txn) (late : AreLate a t all us) w
     across_all : (u : ℕ) → there a IsAcross w t us u → there a IsAcross w t all u
     across_all u h = record { listed = among_all u h.listed; stake = h.stake; across = h.across }
 
-    -- so the least of them is the least of all
+    -- so the least in that part is the least of all
     pub least_recent : (o : Option Txn) → IsLeast (there a IsAcross w t us) o → IsLeast (there a IsAcross w t all) o
     least_recent o h = least_as (there a IsAcross w t us) (there a IsAcross w t all) o across_all across_recent h
 

@@ -1,4 +1,4 @@
--- What a snapshot node says.
+-- The answers of a snapshot node.
 use Rattle.std.proofs.Common.{◌≡◌, ℕ, Bool, true, false, cond, not, ◌&&◌, eqb, ltb, List, find, Option, Some, None, refl, sym, ◌∙◌, ap}
 use Rattle.std.proofs.lemmas.Bool.{eq-eqb, ne_eqb}
 use Rattle.teb_names.specs.declared.Cell.{Cell}
@@ -43,7 +43,7 @@ pub snapshot_orders : (S : Setup) (H : List Event) (n u w : ℕ) (x : Cell) → 
 unfolding orders
 snapshot_orders S H n u w x e = rw e refl
 
--- a Begin at the leaf goes on, and above it waits for whoever is found where the batch is full
+-- a Begin goes on at the leaf; above it, if the batch is full, it waits for the transaction that is found
 pub snapshot_start_leaf : (S : Setup) (H : List Event) (s : Spot) (n : ℕ) → n ≡ leaf S.tree s → Go ≡ on_begin S H s n
 snapshot_start_leaf S H s n e = sym (begin_waits S H s n ∙ go (has_batches S.tree n))
   where
@@ -61,7 +61,7 @@ snapshot_start S H s n side size k inner a b =
     waited None = refl
     waited (Some u) = refl
 
--- what it says of a write
+-- the answer to a write
 pub snapshot_first : (S : Setup) (H : List Event) (n t : ℕ) (x : Cell) (u : Txn) → (row S.tree n).control ≡ Snapshot → Some u ≡ some_txn (find (is_first S H n t x) (txns H))
     → Break (First u x) ≡ on_access (row S.tree n).control S H n t x true
 unfolding on_access

@@ -1,4 +1,4 @@
--- The definition's search through the pairs of edges finds the least pivot: the least that comes first in one, and so on.
+-- The definition's search through the pairs of edges finds the least pivot, compared by its first transaction, then its second, and so on.
 use Rattle.std.proofs.Common.{◌≡◌, ℕ, zero, suc, ◌<◌, ◌≤◌, Bool, true, false, cond, List, [], ◌∷◌, ◌++◌, ◌⊎◌, map, filter, find, flat_map, Option, Some, None, refl, sym, ◌∙◌, ap, subst, arith, inl, inr}
 use Rattle.std.proofs.lemmas.Bool.{cases_lt, both_ways, false_from_ne_true}
 use Rattle.teb_names.specs.declared.ControlKind.TheVariants.{Snapshot}
@@ -17,7 +17,7 @@ use Rattle.phase_api.specs.FactsView.{IsOrderly}
 use Rattle.snapshot_node.specs.Pivots.{is_at_stake, IsLeast, IsLeastEdge, Leads, IsPivot, IsFirst, IsMiddle, break_by}
 use Rattle.snapshot_node.proofs.Batchmates.{edge_begun}
 
--- x stands in a list, and N holds of all before it
+-- x is in a list, and N holds of all elements before it
 abbrev First : {X : Type 0} → (X → Type 0) → List X → X → Type 0
 First N [] x = ⊥
 First N (y ∷ ys) x = (y ≡ x) ⊎ (N y × First N ys x)
@@ -46,7 +46,7 @@ first_filter N p (z ∷ zs) x t h = go (p z) refl h (first_filter N p zs x t)
     go true e h ih = elim h [ inl q ↦ inl q | inr r ↦ inr (r.0, ih r.1) ]
     go false e h ih = elim h [ inl q ↦ absurd (both_ways (p x) (ap p (sym q) ∙ e) t) | inr r ↦ ih r.1 ]
 
--- pairs stand in the order of their left parts, and those of one left part in the order of their right parts
+-- pairs are ordered by their left parts, and those with the same left part by their right parts
 first_pairs : {X Y : Type 0} (h : X → List Y) (N : X → Type 0) (M : X × Y → Type 0) (xs : List X) (x : X) (y : Y) → First N xs x → ((z : X) → Has xs z → N z → (w : Y) → Has (h z) w → M (z, w))
     → First (λ w. M (x, w)) (h x) y →
     First M (flat_map (λ z. map (λ w. (z, w)) (h z)) xs) (x, y)
@@ -87,7 +87,7 @@ module _ (S : Setup) (H : List Event) (n t : ℕ) where
       let at = λ (u : ℕ) (i : In u (at_stake H t)). (filter-In (is_at_stake H t) u (txns H) i).1 in
       record { from = at e.0 f.0; to = at e.1 f.1; edge = f.2 }
 
-  -- what the definition goes through
+  -- the quadruples that the definition goes through
   quad_pivot : (q : (ℕ × ℕ) × (ℕ × ℕ)) → Has (quads (edges S H n (at_stake H t))) q → through q ≡ true → IsPivot S H n t q.0.0 q.0.1 q.1.0 q.1.1
   quad_pivot q h e = let f = quads_from (edges S H n (at_stake H t)) q h in record { into = leads_in q.0 f.0; out = record { batch = e; out = leads_in q.1 f.1 } }
 
@@ -107,7 +107,7 @@ module _ (S : Setup) (H : List Event) (n t : ℕ) where
     unfolding at_stake txns
     first_stake u b h = first_filter (λ y. y < u) (is_at_stake H t) (txns H) u h (let z = o.numbered u b in first_number (begun_count H) u z.0 z.1)
 
-    -- an edge of a lesser one, or to a lesser one
+    -- an edge from a lesser transaction, or from the same one to a lesser one
     abbrev Before : ℕ → ℕ → ℕ × ℕ → Type 0
     Before a b f = (f.0 < a) ⊎ ((f.0 ≡ a) × (f.1 < b))
 
@@ -120,7 +120,7 @@ module _ (S : Setup) (H : List Event) (n t : ℕ) where
         (first_filter (λ y. y < b) (edge S H n a) (at_stake H t) b e.edge (first_stake b begun.1 e.to)))
 
     module _ (a b c d : Txn) (first : IsLeast (IsFirst S H n t) (Some a)) (second : IsLeast (IsMiddle S H n t a.0) (Some b)) (out : IsLeastEdge S H n t b.0 (Some (c, d))) where
-      -- another pair of edges before these is no pivot
+      -- no earlier pair of edges is a pivot
       no_lesser : (e f : ℕ × ℕ) → Before a.0 b.0 e → Leads S H n t e.0 e.1 → Leads S H n t f.0 f.1 → one_batch S H n e.1 f.0 ≡ true → ⊥
       no_lesser e f r x y m = elim r [
         | inl l ↦ (let z = first.1 e.0 (record { second = e.1; third = f.0; fourth = f.1; pivot = record { into = x; out = record { batch = m; out = y } } }) in omega arith)

@@ -1,4 +1,4 @@
--- What a transaction has accessed, and what it has accessed after one more event.
+-- The accesses of a transaction, before and after one more event.
 use Rattle.std.proofs.Common.{◌≡◌, ℕ, suc, ◌+◌, Bool, true, false, cond, eqb, ◌&&◌, List, [], ◌∷◌, filter, refl, sym, ◌∙◌, ap, arith, inl, inr, eqb-true}
 use Rattle.std.specs.List.{count_by}
 use Rattle.std.proofs.lemmas.Bool.{cases_Bool, both_ways, or_left}
@@ -23,14 +23,14 @@ use Rattle.snapshot_node.specs.Committed.{is_any_put, puts_of}
 use Rattle.snapshot_node.proofs.Accessed.{accesses_of, reads_own, puts_own}
 use Rattle.snapshot_node.proofs.Pending.{count_step}
 
--- as many of the accesses that events show are puts
+-- the number of puts among the accesses is the number of Put events
 puts_counted : (es : List Event) → puts_among (touched_in es) ≡ count_by is_any_put es
 puts_counted [] = refl
 puts_counted (Got t y w v ∷ es) = omega (arith, count_step is_put (Reads y) (touched_in es), count_step is_any_put (Got t y w v) es, puts_counted es)
 puts_counted (Put t y v ∷ es) = omega (arith, count_step is_put (Puts y) (touched_in es), count_step is_any_put (Put t y v) es, puts_counted es)
 puts_counted (e ∷ es) = omega (arith, count_step is_any_put e es, puts_counted es)
 
--- what t has accessed, where node n is on its path
+-- the accesses of t, if node n is on its path
 abbrev pub touched_at : Setup → List Event → ℕ → ℕ → List Touched
 touched_at S H n t = cond (on S H n t) (accesses_of H t) []
 
@@ -56,13 +56,13 @@ module _ (S : Setup) (H : List Event) (n t : ℕ) where
       go true = puts_counted (own_events H t)
       go false = refl
 
--- accesses of no cell are none
+-- a list of accesses without any cell is empty
 no_cells : (zs : List Touched) → ((x : Cell) → any_puts x zs ≡ false) → ((x : Cell) → any_reads x zs ≡ false) → zs ≡ []
 no_cells [] p r = refl
 no_cells (Reads y ∷ zs) p r = absurd (both_ways _ (r y) (or_left (same_cell y y) _ (same_cell-itself y)))
 no_cells (Puts y ∷ zs) p r = absurd (both_ways _ (p y) (or_left (same_cell y y) _ (same_cell-itself y)))
 
--- whoever has put and read nothing has accessed nothing
+-- a transaction that has put and read nothing has no accesses
 idle : (H : List Event) (t : ℕ) → ((x : Cell) → (wrote H t x ≡ false) × (got H t x ≡ false)) → accesses_of H t ≡ []
 idle H t h = no_cells _ (λ x. puts_own H t x ∙ (h x).0) (λ x. reads_own H t x ∙ (h x).1)
 
@@ -96,7 +96,7 @@ unfolding begun_count
 count_began t s k i P = omega arith
 
 module _ (S : Setup) (P : List Event) (n : ℕ) where
-  -- an event that is no access, by whomever
+  -- an event that is not an access
   untouched : (e : Event) (u : ℕ) → ((es : List Event) → touched_in (e ∷ es) ≡ touched_in es) → accesses_of (e ∷ P) u ≡ accesses_of P u
   untouched e u h = touched_step e P u ∙ go (is_of u e)
     where
@@ -107,7 +107,7 @@ module _ (S : Setup) (P : List Event) (n : ℕ) where
   pub still_touched : (e : Event) (u : ℕ) → is_began u e ≡ false → ((es : List Event) → touched_in (e ∷ es) ≡ touched_in es) → touched_at S (e ∷ P) n u ≡ touched_at S P n u
   still_touched e u b h = λ j. cond (on_kept S e P n u b j) (untouched e u h j) []
 
-  -- t begins, and has accessed nothing yet
+  -- t begins; it has no accesses yet
   pub began_touched : (t : Txn) (s : Session) (k : Kind) (i : ℕ) → IsOrderly S P → t.0 ≡ suc (begun_count P) → (u : ℕ) → touched_at S (Began t s k i ∷ P) n u ≡ touched_at S P n u
   began_touched t s k i o new u = elim (cases_Bool (eqb t.0 u)) [
     | inl q ↦ bare (on S (Began t s k i ∷ P) n u) _ (untouched (Began t s k i) u (λ es. refl) ∙ none q) ∙ sym (bare (on S P n u) _ (none q))
@@ -121,12 +121,12 @@ module _ (S : Setup) (P : List Event) (n : ℕ) where
       none : eqb t.0 u ≡ true → accesses_of P u ≡ []
       none q = ap (λ (v : ℕ). accesses_of P v) (sym (eqb-true t.0 u q)) ∙ idle P t.0 (λ x. new_accesses_none S P t.0 x o new)
 
-  -- an event of a transaction that begins nobody
+  -- an event that is not a Began
   module _ (e : Event) (b : (u : ℕ) → is_began u e ≡ false) (u : ℕ) where
     steps : touched_at S (e ∷ P) n u ≡ cond (on S P n u) (cond (is_of u e) (touched_in (e ∷ own_events P u)) (accesses_of P u)) []
     steps = λ j. cond (on_kept S e P n u (b u) j) (touched_step e P u j) []
 
-    -- an access, where n is on its path
+    -- an access by a transaction that has n on its path
     pub more_touched : (z : Touched) → ((es : List Event) → touched_in (e ∷ es) ≡ z ∷ touched_in es) → on S P n (event_txn e).0 ≡ true
         → touched_at S (e ∷ P) n u ≡ cond (is_of u e) (z ∷ touched_at S P n u) (touched_at S P n u)
     more_touched z a o = steps ∙ go (is_of u e) refl
@@ -137,7 +137,7 @@ module _ (S : Setup) (P : List Event) (n : ℕ) where
             (λ j. cond (h j) (a (own_events P u) j) []) ∙ sym (λ j. z ∷ cond (h j) (accesses_of P u) [])
         go false q = refl
 
-    -- where it is not
+    -- an access by a transaction that does not have n on its path
     pub touched_elsewhere : on S P n (event_txn e).0 ≡ false → touched_at S (e ∷ P) n u ≡ touched_at S P n u
     touched_elsewhere o = steps ∙ go (is_of u e) refl
       where

@@ -1,4 +1,4 @@
--- Who has put a cell and counts, after one more event.
+-- The writers of a cell that are not aborted, after one more event.
 use Rattle.std.proofs.Common.{◌≡◌, ℕ, ℤ, suc, Bool, true, false, not, eqb, ◌&&◌, ◌||◌, List, ◌∷◌, Option, refl, sym, ◌∙◌, ap, inl, inr, eqb-true}
 use Rattle.std.proofs.lemmas.Bool.{cases_Bool, and_right, or_left, or_right}
 use Rattle.teb_names.specs.declared.Txn.{Txn}
@@ -26,18 +26,18 @@ wrote_kept e P u x h = wrote-cons e P u x ∙ ap (λ (b : Bool). b || wrote P u 
 pub committed_kept : (e : Event) (P : List Event) (u : ℕ) → is_done u e ≡ false → committed (e ∷ P) u ≡ committed P u
 committed_kept e P u h = committed_step e P u ∙ ap (λ (b : Bool). b || committed P u) h
 
--- who counts after an event that is none of u's Began, Done and Gone
+-- an event that is none of u's Began, Done and Gone does not change whether u counts
 counts_kept : (e : Event) (P : List Event) (u : ℕ) → is_began u e ≡ false → is_done u e ≡ false → is_gone u e ≡ false → counts (e ∷ P) u ≡ counts P u
 counts_kept e P u b d g = (λ j. unfinished_kept e P u b d g j || committed_kept e P u d j)
 
--- t, which is unfinished, commits, and counts as before
+-- t, which is unfinished, commits, and still counts
 counts_done : (P : List Event) (t : Txn) (u : ℕ) → unfinished P t.0 ≡ true → counts (Done t ∷ P) u ≡ counts P u
 counts_done P t u run = elim (cases_Bool (eqb t.0 u)) [
   | inl q ↦ or_right (unfinished (Done t ∷ P) u) _ (committed_step (Done t) P u ∙ or_left (eqb t.0 u) _ q) ∙ sym (or_left (unfinished P u) _ (ap (unfinished P) (sym (eqb-true t.0 u q)) ∙ run))
   | inr q ↦ counts_kept (Done t) P u refl q refl
 ]
 
--- t, which is unfinished, aborts, and counts no more
+-- t, which is unfinished, aborts, and no longer counts
 counts_gone : (P : List Event) (t : Txn) (c : Cause) (u : ℕ) → unfinished P t.0 ≡ true → counts (Gone t c ∷ P) u ≡ (counts P u && not (eqb t.0 u))
 counts_gone P t c u run = elim (cases_Bool (eqb t.0 u)) [
   | inl q ↦ (λ j. ended q j || over q j) ∙ sym (and_right (counts P u) _ (ap not q))
@@ -54,7 +54,7 @@ counts_gone P t c u run = elim (cases_Bool (eqb t.0 u)) [
     over : eqb t.0 u ≡ true → committed (Gone t c ∷ P) u ≡ false
     over q = committed_kept (Gone t c) P u refl ∙ ap (committed P) (sym (eqb-true t.0 u q)) ∙ (unfinished_parts P t.0 run).1
 
--- an event that is none of u's Began, Put, Done and Gone
+-- an event that is none of u's Began, Put, Done and Gone changes nothing for u
 pub still_put : (S : Setup) (P : List Event) (n : ℕ) (e : Event) (x : Cell) (u : ℕ) → is_began u e ≡ false → is_put u x e ≡ false → is_done u e ≡ false → is_gone u e ≡ false
     → has_put_in S (e ∷ P) n x u ≡ has_put_in S P n x u
 still_put S P n e x u b p d g = (λ j. on_kept S e P n u b j && counts_kept e P u b d g j && wrote_kept e P u x p j)
@@ -62,7 +62,7 @@ still_put S P n e x u b p d g = (λ j. on_kept S e P n u b j && counts_kept e P 
 pub done_put : (S : Setup) (P : List Event) (n : ℕ) (t : Txn) (x : Cell) (u : ℕ) → unfinished P t.0 ≡ true → has_put_in S (Done t ∷ P) n x u ≡ has_put_in S P n x u
 done_put S P n t x u run = (λ j. on_kept S (Done t) P n u refl j && counts_done P t u run j && wrote_kept (Done t) P u x refl j)
 
--- t begins, and has put nothing yet
+-- t begins; it has put nothing yet
 pub began_put : (S : Setup) (P : List Event) (n : ℕ) (t : Txn) (s : Session) (k : Kind) (i : ℕ) → IsOrderly S P → t.0 ≡ suc (begun_count P) → (x : Cell) (u : ℕ)
     → has_put_in S (Began t s k i ∷ P) n x u ≡ has_put_in S P n x u
 began_put S P n t s k i o new x u = elim (cases_Bool (eqb t.0 u)) [
@@ -110,7 +110,7 @@ module _ (S : Setup) (P : List Event) (n : ℕ) (t : Txn) (y : Cell) (v : Option
           (λ j. (h j && counts P u) && ((true && same_cell y x) || wrote P u x)) ∙ (λ j. (sym h j && counts P u) && wrote P u x)
       go false q = refl
 
--- t, which is unfinished, aborts, and counts as a writer no more
+-- t, which is unfinished, aborts and no longer counts as a writer
 pub gone_put : (S : Setup) (P : List Event) (n : ℕ) (t : Txn) (c : Cause) (x : Cell) (u : ℕ) → unfinished P t.0 ≡ true
     → (has_put_in S P n x u && not ((on S P n t.0 && wrote P t.0 x) && eqb t.0 u)) ≡ has_put_in S (Gone t c ∷ P) n x u
 gone_put S P n t c x u run = go (eqb t.0 u) refl

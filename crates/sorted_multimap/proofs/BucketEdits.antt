@@ -1,4 +1,4 @@
--- What an edit of its two lists makes of a bucket.
+-- How an edit of the two lists of a bucket changes its values.
 use Rattle.std.proofs.Common.{◌≡◌, ◌==◌, ℕ, zero, suc, ◌+◌, ◌-◌, ◌<◌, ◌≤◌, inl, inr, Bool, true, false, not, ltb, List, [], ◌∷◌, ◌++◌, cond, length, set, take, drop, Result, Ok, Err, MatchResult, vec_len, vec_capacity, refl, sym, ◌∙◌, ap, subst, arith}
 use Rattle.std.specs.declared.cmp.Ordering.{Ordering}
 use Rattle.std.specs.Vec.{with_item}
@@ -48,7 +48,7 @@ module _ {K V : Type 0} (R : K → K → Ordering) (total : IsTotalOrder R) (p :
   pub range_values : (k : K) → take (tops R p.keys.items k - lows R p.keys.items k) (drop (lows R p.keys.items k) p.values.items) ≡ bucket_values R p k
   range_values k = values_range R total ks vs k s.ascends paired
 
-  -- how many values k has
+  -- the number of values of k
   range_length : (k : K) → lows R p.keys.items k + length (bucket_values R p k) ≡ tops R p.keys.items k
   range_length k = values_length R total ks vs k s.ascends paired
 
@@ -70,11 +70,11 @@ module _ {K V : Type 0} (R : K → K → Ordering) (total : IsTotalOrder R) (p :
     room = λ m n le h. record { keys = omega (arith, le, h.keys); values = omega (arith, le, h.values) };
   }
 
-  -- other words for the same values
+  -- equal values in another form
   pub reworded : (r : Bucket K V) (k : K) (ws us : List V) (n : ℕ) → ws ≡ us → IsEdited R p r k ws n → IsEdited R p r k us n
   reworded r k ws us n e h = subst (λ (l : List V). IsEdited R p r k l n) e h
 
-  -- one place of the room is taken at the most
+  -- at most one reserved slot is used
   pub one_taken : (r : Bucket K V) (k : K) (ws us : List V) (taken : Bool) → ws ≡ us → IsEdited R p r k ws (cond taken 1 0) → IsEdited R p r k us 1
   one_taken r k ws us taken e h = record {
     sorted = h.sorted;
@@ -86,13 +86,13 @@ module _ {K V : Type 0} (R : K → K → Ordering) (total : IsTotalOrder R) (p :
       at_most true m n le = le
       at_most false m n le = omega arith
 
-  -- an edit that is made only where `joined` is true
+  -- an edit that is made only if `joined` is true
   pub joined_edit : (joined : Bool) (r : Bucket K V) (k : K) (ws : List V) → (joined ≡ true → IsEdited R p r k ws 1) → (joined ≡ false → r ≡ p)
       → IsEdited R p r k (cond joined ws (bucket_values R p k)) (cond joined 1 0)
   joined_edit true r k ws edit kept = edit refl
   joined_edit false r k ws edit kept = subst (λ (b : Bucket K V). IsEdited R p b k (bucket_values R p k) 0) (sym (kept refl)) (left_alone k (bucket_values R p k) refl)
 
-  -- the value at a place is replaced
+  -- the value at an index is replaced
   pub set_edited : (k : K) (at : ℕ) (v : V) → lows R p.keys.items k ≤ at → at < tops R p.keys.items k
       → IsEdited R p (record { keys = p.keys; values = with_item p.values at v }) k (set (bucket_values R p k) (at - lows R p.keys.items k) v) 0
   set_edited k at v low top = record {
@@ -102,7 +102,7 @@ module _ {K V : Type 0} (R : K → K → Ordering) (total : IsTotalOrder R) (p :
   }
 
   module _ (r : Bucket K V) (k : K) where
-    -- a value goes in at a place
+    -- a value is inserted at an index
     pub put_edited : (at : ℕ) (v : V) → lows R p.keys.items k ≤ at → at ≤ tops R p.keys.items k
         → r.keys.items ≡ insert p.keys.items at k → r.values.items ≡ insert p.values.items at v
         → vec_len r.keys ≡ vec_len p.keys + 1 → vec_len r.values ≡ vec_len p.values + 1 → vec_capacity p.keys ≤ vec_capacity r.keys → vec_capacity p.values ≤ vec_capacity r.values
@@ -113,7 +113,7 @@ module _ {K V : Type 0} (R : K → K → Ordering) (total : IsTotalOrder R) (p :
       room = λ m n le h. record { keys = omega (arith, le, h.keys, klen, kcap); values = omega (arith, le, h.values, vlen, vcap) };
     }
 
-    -- the value at a place is taken out
+    -- the value at an index is removed
     pub take_edited : (at : ℕ) → lows R p.keys.items k ≤ at → at < tops R p.keys.items k
         → r.keys.items ≡ remove p.keys.items at → r.values.items ≡ remove p.values.items at
         → vec_len r.keys + 1 ≡ vec_len p.keys → vec_len r.values + 1 ≡ vec_len p.values → vec_capacity p.keys ≤ vec_capacity r.keys → vec_capacity p.values ≤ vec_capacity r.values
@@ -124,7 +124,7 @@ module _ {K V : Type 0} (R : K → K → Ordering) (total : IsTotalOrder R) (p :
       room = λ m n le h. record { keys = omega (arith, le, h.keys, klen, kcap); values = omega (arith, le, h.values, vlen, vcap) };
     }
 
-    -- and the only one
+    -- the value that is removed is the only one
     pub only_edited : (at : ℕ) → lows R p.keys.items k ≤ at → at < tops R p.keys.items k → vec_len p.keys ≡ 1
         → r.keys.items ≡ [] → r.values.items ≡ []
         → vec_len r.keys ≡ 0 → vec_len r.values ≡ 0 → vec_capacity p.keys ≤ vec_capacity r.keys → vec_capacity p.values ≤ vec_capacity r.values
@@ -134,7 +134,7 @@ module _ {K V : Type 0} (R : K → K → Ordering) (total : IsTotalOrder R) (p :
         take_edited at low top (kin ∙ sym (remove_only ks at (omega (arith, p.keys.ok.0)) l)) (vin ∙ sym (remove_only vs at (omega (arith, paired, p.keys.ok.0)) l))
         (omega arith) (omega (arith, s.paired)) kcap vcap
 
-    -- all values of k are taken out
+    -- all values of k are removed
     pub cut_edited : (start end : ℕ) → start ≡ lows R p.keys.items k → end ≡ tops R p.keys.items k
         → r.keys.items ≡ remove_range p.keys.items start end → r.values.items ≡ remove_range p.values.items start end
         → vec_len r.keys + (end - start) ≡ vec_len p.keys → vec_len r.values + (end - start) ≡ vec_len p.values → vec_capacity p.keys ≤ vec_capacity r.keys
@@ -149,13 +149,13 @@ module _ {K V : Type 0} (R : K → K → Ordering) (total : IsTotalOrder R) (p :
       room = λ m n le h. record { keys = omega (arith, le, h.keys, klen, kcap); values = omega (arith, le, h.values, vlen, vcap) };
     }
 
-  -- a value behind those of k
+  -- a value after the last of k
   pub put_behind : (k : K) (v : V) → insert (bucket_values R p k) (tops R p.keys.items k - lows R p.keys.items k) v ≡ bucket_values R p k ++ v ∷ []
   put_behind k v =
       let many : tops R ks k - lows R ks k ≡ length (bucket_values R p k) = omega (arith, range_length k) in
       ap (λ (i : ℕ). insert (bucket_values R p k) i v) many ∙ insert_end (bucket_values R p k) v
 
-  -- what a search told, by its answer
+  -- what a search found, by its result
   module _ (key : V → ℕ) (k : K) (n at : ℕ) (place : Result ℕ ℕ) (told : MatchResult place (IsFound R key p k n) (IsMissing R key p k n)) where
     told_as : (r : Result ℕ ℕ) → place ≡ r → MatchResult r (IsFound R key p k n) (IsMissing R key p k n)
     told_as r e = subst (λ (q : Result ℕ ℕ). MatchResult q (IsFound R key p k n) (IsMissing R key p k n)) e told
@@ -166,7 +166,7 @@ module _ {K V : Type 0} (R : K → K → Ordering) (total : IsTotalOrder R) (p :
     pub place_missing : place ≡ Err at → IsMissing R key p k n at
     place_missing e = told_as (Err at) e
 
-  -- a value is put by its number
+  -- a value is put under its number
   module _ (key : V → ℕ) (k : K) (v : V) (at : ℕ) where
     pub put_found : IsFound R key p k (key v) at → IsEdited R p (record { keys = p.keys; values = with_item p.values at v }) k (put_by key v (bucket_values R p k)) 0
     put_found f = reworded _ k _ _ 0 (sym (put-set key v (bucket_values R p k) (at - lows R ks k) f.is)) (set_edited k at v f.low f.top)
@@ -175,7 +175,7 @@ module _ {K V : Type 0} (R : K → K → Ordering) (total : IsTotalOrder R) (p :
         → IsEdited R p r k (put_by key v (bucket_values R p k)) 1
     put_missing r f h = reworded r k _ _ 1 (sym (put-insert key v (bucket_values R p k) (at - lows R ks k) f.is)) h
 
-  -- the one with a number is taken out
+  -- the value with a number is removed
   module _ (key : V → ℕ) (k : K) (n at : ℕ) where
     module _ (a : IsAscendingBy key (bucket_values R p k)) where
       pub take_found : (r : Bucket K V) → IsFound R key p k n at → IsEdited R p r k (remove (bucket_values R p k) (at - lows R p.keys.items k)) 0

@@ -1,4 +1,4 @@
--- What an edit makes of the values of cells.
+-- How an edit changes the values of cells.
 use Rattle.std.proofs.Common.{◌≡◌, ℕ, Bool, true, false, cond, List, [], ◌∷◌, ◌++◌, Some, None, refl, sym, ◌∙◌, ap}
 use Rattle.std.specs.List.{remove}
 use Rattle.std.specs.Ordering.{is_eq}
@@ -9,7 +9,7 @@ use Rattle.teb_names.proofs.SameCells.{same_cell-true}
 use Rattle.sorted_multimap.specs.LastMatches.{IsLastPlace, without_last}
 use Rattle.sorted_multimap.proofs.TakenMatches.{last_there, last_nowhere}
 
--- a value at the end of the values_of of x
+-- a value is pushed to the values of x
 pub pushed_cell : {V : Type 0} (f : Cell → List V) (x y : Cell) (v : V) → cond (is_eq (cell_cmp x y)) (f x ++ v ∷ []) (f y) ≡ cond (same_cell x y) (f y ++ v ∷ []) (f y)
 pushed_cell {V} f x y v = go (same_cell x y) refl
   where
@@ -17,7 +17,7 @@ pushed_cell {V} f x y v = go (same_cell x y) refl
     go true h = ap (λ (o : Bool). cond o (f x ++ v ∷ []) (f y)) (sym (same_cell-cell_cmp x y) ∙ h) ∙ ap (λ (z : Cell). f z ++ v ∷ []) (same_cell-true x y h)
     go false h = ap (λ (o : Bool). cond o (f x ++ v ∷ []) (f y)) (sym (same_cell-cell_cmp x y) ∙ h)
 
--- the last value that passes is taken out of the values_of of x
+-- the last value that passes is removed from the values of x
 module _ {V : Type 0} (p : V → Bool) (f : Cell → List V) (x y : Cell) where
   pub taken_last : (i : ℕ) → IsLastPlace p (f x) (Some i) → cond (is_eq (cell_cmp x y)) (remove (f x) i) (f y) ≡ cond (same_cell x y) (without_last p (f y)) (f y)
   taken_last i h = go (same_cell x y) refl

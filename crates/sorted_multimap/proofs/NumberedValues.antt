@@ -1,4 +1,4 @@
--- Values that ascend by number: the place of one, and a list without the value of a number.
+-- Values in ascending order of their numbers: the index of a number, and the list without its value.
 use Rattle.std.proofs.Common.{◌≡◌, ◌≢◌, ◌⊎◌, ℕ, suc, ◌<◌, ◌≤◌, Bool, true, false, cond, not, ltb, eqb, List, [], ◌∷◌, filter, Result, Ok, Err, refl, sym, ◌∙◌, ap, subst, arith, inl, inr}
 use Rattle.std.specs.List.{remove}
 use Rattle.std.proofs.lemmas.Bool.{ne_eqb}
@@ -15,7 +15,7 @@ module _ {V : Type 0} (key : V → ℕ) (n : ℕ) where
   without_above [] h = refl
   without_above (v ∷ vs) h = rw (ne_eqb (key v) n (λ e. let l : n < key v = h.0 in omega arith)) (ap (λ (l : List V). v ∷ l) (without_above vs h.1))
 
-  -- a list without a value that is not there
+  -- removing a number that is not in the list leaves the list unchanged
   pub without_missing : (vs : List V) (i : ℕ) → IsAscendingBy key vs → place_of key vs n ≡ Err i → vs ≡ without vs
   without_missing [] i a h = refl
   without_missing (v ∷ vs) i a h = go (λ j q. without_missing vs j a.1 q) (ltb_tells (key v) n) (eqb_tells (key v) n)
@@ -32,7 +32,7 @@ module _ {V : Type 0} (key : V → ℕ) (n : ℕ) where
           (let z : Ok 0 ≡ Err i = sym (ap (λ (b : Bool). cond b (next_place (place_of key vs n)) (cond (eqb (key v) n) (Ok 0) (Err 0))) p.0 ∙ ap (λ (b : Bool). cond b (Ok 0) (Err 0)) q.0) ∙ h in cc)
       go ih (inr p) (inr q) = without_above (v ∷ vs) ((let l : n < key v = omega (arith, p.1, q.1) in l), above-mono key n (key v) vs p.1 a.0)
 
-  -- and one from which it is taken out
+  -- removing the value at the index of its number gives the list without that number
   pub without_found : (vs : List V) (i : ℕ) → IsAscendingBy key vs → place_of key vs n ≡ Ok i → remove vs i ≡ without vs
   without_found [] i a h = absurd (cc)
   without_found (v ∷ vs) i a h = go (λ j q. without_found vs j a.1 q) (ltb_tells (key v) n) (eqb_tells (key v) n)

@@ -1,4 +1,4 @@
--- A multimap in two lists that are sorted by key: where the values of a key stand, and what edits among them make.
+-- A multimap in two lists that are sorted by key: the index range of a key's values, and the effect of edits in it.
 use Rattle.std.proofs.Common.{◌≡◌, ℕ, zero, suc, ◌+◌, ◌-◌, ◌<◌, ◌≤◌, Bool, true, false, cond, not, List, [], ◌∷◌, ◌++◌, length, take, drop, get_or, set, refl, sym, ◌∙◌, ap, subst, arith, inl, inr}
 use Rattle.std.specs.declared.cmp.Ordering.{Ordering}
 use Rattle.std.specs.declared.cmp.Ordering.TheVariants.{Less, Equal, Greater}
@@ -27,7 +27,7 @@ is_equal Less h = absurd (cc)
 is_equal Equal h = refl
 is_equal Greater h = absurd (cc)
 
--- what an order of two says
+-- the three results of a comparison
 data Compared (o : Ordering) : Type 0 where
   below : o ≡ Less → Compared o
   tied : o ≡ Equal → Compared o
@@ -61,7 +61,7 @@ passing_none : {K : Type 0} (p : K → Bool) (ks : List K) → ((i : ℕ) (d : K
 passing_none p [] h = refl
 passing_none p (j ∷ js) h = let off : p j ≡ false = h 0 j (omega arith) in rw off (passing_none p js (λ i d lt. h (suc i) d (omega arith)))
 
--- a list that is parted at n has n that pass
+-- if a list is partitioned at n, n of its elements pass
 pub passing_parted : {K : Type 0} (p : K → Bool) (ks : List K) (n : ℕ) → n ≤ length ks → IsPartitionPoint (λ j. p j ≡ true) (λ j. p j ≡ false) ks n → n ≡ passing p ks
 passing_parted p [] n le h = omega arith
 passing_parted p (j ∷ js) zero le h = sym (passing_none p (j ∷ js) (λ i d lt. h.1 i d (omega arith) lt))
@@ -77,7 +77,7 @@ FirstLow {K} R ks k n = (j : ℕ) (d : K) → j < n → is_lt (R (get_or ks j d)
 pub low_none : {K : Type 0} (R : K → K → Ordering) (ks : List K) (k : K) → FirstLow R ks k 0
 low_none R ks k j d l = absurd (omega arith)
 
--- and so is the next
+-- if the next key is below k too, the first n + 1 are
 pub low_more : {K : Type 0} (R : K → K → Ordering) (ks : List K) (k i : K) (n : ℕ) → n < length ks → i ≡ get_or ks n i → is_lt (R i k) ≡ true → FirstLow R ks k n → FirstLow R ks k (n + 1)
 low_more R ks k i n l at on f j d lt = elim (eqb_tells j n) [
   | inl (hit, same) ↦ ap (λ x. is_lt (R x k)) (ap (λ m. get_or ks m d) same ∙ get_or_default ks n d i l ∙ sym at) ∙ on
@@ -88,7 +88,7 @@ pub low_all : {K : Type 0} (R : K → K → Ordering) (ks : List K) (k : K) (n :
 low_all R ks k n e f = passing_parted (λ j. is_lt (R j k)) ks n (omega arith) ((λ j d le lt. f j d lt), (λ j d le lt. absurd (omega arith)))
 
 module _ {K : Type 0} (R : K → K → Ordering) (total : IsTotalOrder R) where
-  -- a test that passes what is not above one that passes
+  -- a test that passes every key that is at most a key that passes
   abbrev pub Falls : (K → Bool) → Type 0
   Falls p = (i j : K) → is_gt (R i j) ≡ false → p j ≡ true → p i ≡ true
 
@@ -116,7 +116,7 @@ module _ {K : Type 0} (R : K → K → Ordering) (total : IsTotalOrder R) where
   pub tops_fall : (k : K) → Falls (λ j. not (is_gt (R j k)))
   tops_fall k i j le h = ap not (upto total i j k le (flipped _ h))
 
-  -- where the first n keys are below k, and the next is not
+  -- if the first n keys are below k and the next one is not, n keys are below k
   pub low_ends : (ks : List K) (k i : K) (n : ℕ) → Ascends R ks → n < length ks → i ≡ get_or ks n i → is_lt (R i k) ≡ false → FirstLow R ks k n → n ≡ lows R ks k
   low_ends ks k i n a l at off f =
       let p = λ (j : K). is_lt (R j k) in
@@ -128,7 +128,7 @@ module _ {K : Type 0} (R : K → K → Ordering) (total : IsTotalOrder R) where
         ]),
       )
 
-  -- behind one that does not pass none does
+  -- if a key fails the test, all later keys fail it
   rest_none : (p : K → Bool) → Falls p → (j : K) (js : List K) → NoneBelow R j js → p j ≡ false → passing p js ≡ 0
   rest_none p f j [] n h = refl
   rest_none p f j (i ∷ is) n h = go (p i) refl (rest_none p f j is n.1 h)
@@ -137,7 +137,7 @@ module _ {K : Type 0} (R : K → K → Ordering) (total : IsTotalOrder R) where
       go true e ih = absurd (clash (p j) (f j i n.0 e) h)
       go false e ih = ih
 
-  -- the keys behind one that is not below k, and behind one that is above it
+  -- no key after one that is not below k is below k; no key after one above k is at most k
   lows_rest : (j k : K) (js : List K) → NoneBelow R j js → is_lt (R j k) ≡ false → lows R js k ≡ 0
   lows_rest j k js n h = rest_none (λ i. is_lt (R i k)) (lows_fall k) j js n h
 
@@ -161,7 +161,7 @@ module _ {K : Type 0} (R : K → K → Ordering) (total : IsTotalOrder R) where
   values_tied (j ∷ js) [] k q e = refl
   values_tied (j ∷ js) (v ∷ vs) k q e = rw (values_tied js vs k q e) (ap (λ o. cond (is_eq o) (v ∷ values_beside R js vs k) (values_beside R js vs k)) (sym (alike_right total k q j e)))
 
-  -- the values of a key, put in its own stead
+  -- replacing the values of a key by themselves changes nothing
   pub values_kept : {V : Type 0} (ks : List K) (vs : List V) (k q : K) → values_beside R ks vs q ≡ cond (is_eq (R k q)) (values_beside R ks vs k) (values_beside R ks vs q)
   values_kept ks vs k q = go (is_eq (R k q)) refl
     where
@@ -169,7 +169,7 @@ module _ {K : Type 0} (R : K → K → Ordering) (total : IsTotalOrder R) where
       go true h = values_tied ks vs k q (is_equal _ h)
       go false h = refl
 
-  -- the values of a key stand between those of the keys below it and above it
+  -- the values of a key follow those of all smaller keys, and precede those of all greater keys
   pub values_range : {V : Type 0} (ks : List K) (vs : List V) (k : K) → Ascends R ks → length ks ≡ length vs
       → take (tops R ks k - lows R ks k) (drop (lows R ks k) vs) ≡ values_beside R ks vs k
   values_range [] vs k a n = refl
@@ -192,7 +192,7 @@ module _ {K : Type 0} (R : K → K → Ordering) (total : IsTotalOrder R) where
           let m : tops R js k - lows R js k ≡ 0 = omega arith in
           ap (λ (i : ℕ). take i (drop (lows R js k) (v ∷ vs))) m ∙ sym (ap (λ (i : ℕ). take i (drop (lows R js k) vs)) m) ∙ ih
 
-  -- how many values a key has
+  -- the number of values of a key
   pub values_length : {V : Type 0} (ks : List K) (vs : List V) (k : K) → Ascends R ks → length ks ≡ length vs → lows R ks k + length (values_beside R ks vs k) ≡ tops R ks k
   values_length [] vs k a n = omega arith
   values_length (j ∷ js) [] k a n = absurd (omega arith)
@@ -204,7 +204,7 @@ module _ {K : Type 0} (R : K → K → Ordering) (total : IsTotalOrder R) where
       go Equal e ih = omega arith
       go Greater e ih = omega arith
 
-  -- an edit at another key
+  -- an insertion at another key leaves the values of q unchanged
   pub values_insert_other : {V : Type 0} (ks : List K) (vs : List V) (p : ℕ) (k q : K) (v : V) → length ks ≡ length vs → p ≤ length ks → is_eq (R k q) ≡ false
       → values_beside R (insert ks p k) (insert vs p v) q ≡ values_beside R ks vs q
   values_insert_other ks vs zero k q v n le off = rw off refl
@@ -219,7 +219,7 @@ module _ {K : Type 0} (R : K → K → Ordering) (total : IsTotalOrder R) where
   values_remove_other (j ∷ js) (w ∷ vs) zero q d n lt off = rw off refl
   values_remove_other {V} (j ∷ js) (w ∷ vs) (suc p) q d n lt off = ap (λ (r : List V). cond (is_eq (R j q)) (w ∷ r) r) (values_remove_other js vs p q d (omega arith) (omega arith) off)
 
-  -- an edit at the key itself
+  -- an insertion at the key itself
   pub values_insert_here : {V : Type 0} (ks : List K) (vs : List V) (p i : ℕ) (k : K) (v : V) → Ascends R ks → length ks ≡ length vs → p ≡ lows R ks k + i → p ≤ tops R ks k
       → values_beside R (insert ks p k) (insert vs p v) k ≡ insert (values_beside R ks vs k) i v
   values_insert_here ks vs zero i k v a n e le = let z : i ≡ 0 = omega arith in rw (tied_itself total k, z) refl
@@ -292,7 +292,7 @@ module _ {K : Type 0} (R : K → K → Ordering) (total : IsTotalOrder R) where
           rw m (ap (λ (xs : List V). w ∷ xs) (ih p (omega arith) (omega arith)))
       go Greater r e lt ih = let t : tops R js k ≡ 0 = tops_rest j k js a.0 r in absurd (omega arith)
 
-  -- the key at an index among its values
+  -- a key at an index within the range of k ties with k
   key_here : (ks : List K) (p : ℕ) (k d : K) → Ascends R ks → lows R ks k ≤ p → p < tops R ks k → R (get_or ks p d) k ≡ Equal
   key_here [] p k d a le lt = absurd (omega arith)
   key_here (j ∷ js) zero k d a le lt = elim (compared (R j k)) [
@@ -308,7 +308,7 @@ module _ {K : Type 0} (R : K → K → Ordering) (total : IsTotalOrder R) where
       go Equal e le lt ih = let z = lows_rest j k js a.0 (ap is_lt e) in ih (omega arith) (omega arith)
       go Greater e le lt ih = let t = tops_rest j k js a.0 e in absurd (omega arith)
 
-  -- a key that ties with k stands among those that are not above it
+  -- a key that ties with k is before the end of the range of k
   tied_under : (ks : List K) (p : ℕ) (k d : K) → Ascends R ks → p < length ks → R (get_or ks p d) k ≡ Equal → p < tops R ks k
   tied_under [] p k d a lt e = absurd (omega arith)
   tied_under (j ∷ js) zero k d a lt e = rw e (omega arith)
@@ -319,7 +319,7 @@ module _ {K : Type 0} (R : K → K → Ordering) (total : IsTotalOrder R) where
       go Equal h ih = omega arith
       go Greater h ih = let t = tops_rest j k js a.0 h in absurd (omega arith)
 
-  -- the next key ties with k, or ends those that do
+  -- the next key ties with k, or ends the range of k
   pub tied_more : (ks : List K) (k i : K) (n : ℕ) → Ascends R ks → n < length ks → i ≡ get_or ks n i → is_eq (R i k) ≡ true → n + 1 ≤ tops R ks k
   tied_more ks k i n a l at on = let t = tied_under ks n k i a l (ap (λ (x : K). R x k) (sym at) ∙ is_equal _ on) in omega arith
 
@@ -329,7 +329,7 @@ module _ {K : Type 0} (R : K → K → Ordering) (total : IsTotalOrder R) where
     | inr (miss, other) ↦ absurd (clash _ (ap is_eq (key_here ks n k i a le (omega arith))) (ap (λ (x : K). is_eq (R x k)) (sym at) ∙ off))
   ]
 
-  -- edits keep the order
+  -- insertions and removals keep the order
   none_insert : (j k : K) (ks : List K) (p : ℕ) → is_gt (R j k) ≡ false → NoneBelow R j ks → NoneBelow R j (insert ks p k)
   none_insert j k ks zero h n = (h, n)
   none_insert j k [] (suc p) h n = (h, n)

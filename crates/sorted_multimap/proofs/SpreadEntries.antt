@@ -1,4 +1,4 @@
--- A multimap that is spread over buckets: where the values of a key lie, and what an edit of their bucket makes of all.
+-- A multimap that is spread over buckets: a key's values are in one bucket, and an edit of the bucket is an edit of the multimap.
 use Rattle.std.proofs.Common.{◌≡◌, ◌≢◌, ℕ, zero, suc, ◌+◌, ◌-◌, ◌%◌, ◌<◌, ◌≤◌, inl, inr, Bool, true, false, cond, List, [], ◌∷◌, ◌++◌, length, get_or, refl, sym, ◌∙◌, ap, subst, arith}
 use mir.Val.{bool_byte}
 use Rattle.std.proofs.Math.ListN.{set, length-set}
@@ -38,7 +38,7 @@ module _ {K V : Type 0} (R : K → K → Ordering) where
   append_none [] ws e = e
   append_none (v ∷ vs) ws e = ap (λ (us : List V). v ∷ us) (append_none vs ws e)
 
-  -- where only one bucket has values of q, these are its values_of
+  -- if only one bucket has values of q, they are all values of q
   one_there : (bs : List (Bucket K V)) (q : K) (i : ℕ) (d : Bucket K V) → i < length bs → ((j : ℕ) (d : Bucket K V) → j < length bs → j ≢ i → bucket_values R (get_or bs j d) q ≡ [])
       → values_of R (entries_of bs) q ≡ bucket_values R (get_or bs i d) q
   one_there [] q i d lt h = absurd (omega arith)
@@ -48,7 +48,7 @@ module _ {K V : Type 0} (R : K → K → Ordering) where
       ∙ one_there bs q i d (omega arith) (λ j d lt off. h (suc j) d (omega arith) (omega arith))
 
 module _ {K V : Type 0} (R : K → K → Ordering) (spread : K → ℕ) where
-  -- the values of a key lie in its bucket
+  -- the values of a key are in its bucket
   pub values_there : (bs : List (Bucket K V)) (n : ℕ) → IsSpread R spread bs n → (q : K) (i : ℕ) (d : Bucket K V) → i < length bs → i ≡ spread q % length bs
       → values_of R (entries_of bs) q ≡ bucket_values R (get_or bs i d) q
   values_there bs n is q i d lt at = one_there R bs q i d lt (λ j d lt off. (is.each j d lt).own q (omega arith))
@@ -103,7 +103,7 @@ module _ {K V : Type 0} (R : K → K → Ordering) where
   kept_entries as_ bs k = kept_entries_of as_ bs k.len k.each
 
 module _ {K V : Type 0} (R : K → K → Ordering) (spread : K → ℕ) where
-  -- what is kept is spread as before
+  -- kept buckets are spread as before
   pub kept_spread : (as_ bs : List (Bucket K V)) (n : ℕ) → IsSpread R spread as_ n → AreKept R as_ bs → IsSpread R spread bs n
   kept_spread as_ bs n is k = record {
     some = λ h. rw k.len (is.some h);
@@ -118,14 +118,14 @@ module _ {K V : Type 0} (R : K → K → Ordering) (spread : K → ℕ) where
         };
   }
 
-  -- less room
+  -- buckets with room for n have room for fewer
   pub less_spread : (bs : List (Bucket K V)) (m n : ℕ) → n ≤ m → IsSpread R spread bs m → IsSpread R spread bs n
   less_spread bs m n le is = record {
     some = λ h. is.some (omega arith);
     each = λ i d lt. let was = is.each i d lt in record { sorted = was.sorted; room = record { keys = omega (arith, was.room.keys); values = omega (arith, was.room.values) }; own = was.own };
   }
 
-  -- one bucket is replaced: what its edit become, the edit of all become
+  -- one bucket is replaced: an edit of its values is the same edit of all values
   module _ (f : K → List V → List V) (bs : List (Bucket K V)) (i m n : ℕ) (b d : Bucket K V) (is : IsSpread R spread bs m) (lt : i < length bs) (le : n ≤ m)
       (sorted : IsSorted R b) (room : HasRoom b n) (edit : (q : K) → bucket_values R b q ≡ f q (bucket_values R (get_or bs i d) q))
       (elsewhere : (q : K) (vs : List V) → spread q % length bs ≢ i → f q vs ≡ vs) where
@@ -161,7 +161,7 @@ module _ {K V : Type 0} (R : K → K → Ordering) (spread : K → ℕ) where
   -- an edit in the bucket of a key
   module _ (agrees : (a b : K) → is_eq (R a b) ≡ true → spread a ≡ spread b) (bs : List (Bucket K V)) (i m n : ℕ) (b d : Bucket K V) (is : IsSpread R spread bs m) (lt : i < length bs) (le : n ≤ m)
       (sorted : IsSorted R b) (room : HasRoom b n) where
-    -- a key in another bucket is another key
+    -- a key in another bucket is a different key
     apart : (k q : K) → i ≡ spread k % length bs → spread q % length bs ≢ i → is_eq (R k q) ≡ false
     apart k q at off = go (is_eq (R k q)) refl
       where
@@ -169,7 +169,7 @@ module _ {K V : Type 0} (R : K → K → Ordering) (spread : K → ℕ) where
         go true h = absurd (off (sym (at ∙ ap (λ (s : ℕ). s % length bs) (agrees k q h))))
         go false h = refl
 
-    -- one values_of is replaced
+    -- the values of one key are replaced
     module _ (k : K) (at : i ≡ spread k % length bs) (new : List V) (edit : (q : K) → bucket_values R b q ≡ cond (is_eq (R k q)) new (bucket_values R (get_or bs i d) q)) where
       one : K → List V → List V
       one q vs = cond (is_eq (R k q)) new vs
@@ -186,7 +186,7 @@ module _ {K V : Type 0} (R : K → K → Ordering) (spread : K → ℕ) where
       unfolding one
       one_values = edited_values one bs i m n b d is lt le sorted room edit elsewhere_one
 
--- each of the buckets is empty
+-- every bucket is empty
 abbrev pub AreEmpty : {K V : Type 0} → (K → K → Ordering) → List (Bucket K V) → Type 0
 AreEmpty R [] = Unit {0}
 AreEmpty R (b ∷ bs) = IsSorted R b × (b.keys.items ≡ []) × (b.values.items ≡ []) × AreEmpty R bs
@@ -217,12 +217,12 @@ module _ {K V : Type 0} (R : K → K → Ordering) (spread : K → ℕ) where
   empty_more [] b e s k v = (s, k, v, tt)
   empty_more (a ∷ as_) b e s k v = (e.0, e.1, e.2, empty_more as_ b e.3 s k v)
 
--- what is left of the room where it is taken, or is not
+-- the reserved slots that are left if one is used, and if none is
 left_room : (taken : Bool) (m n : ℕ) → 0 < m → n ≡ bool_byte taken → m - n + cond taken 1 0 ≤ m
 left_room true m n some e = omega arith
 left_room false m n some e = omega arith
 
--- k lies in b, which is number i of the buckets
+-- k belongs in b, the bucket with index i
 pub record IsLocated {K V : Type 0} (spread : K → ℕ) (bs : List (Bucket K V)) (k : K) (i : ℕ) (b : Bucket K V) : Type 0 where
   pub within : i < length bs
   pub at : i ≡ spread k % length bs
@@ -247,7 +247,7 @@ module _ {K V : Type 0} (R : K → K → Ordering) (spread : K → ℕ) where
   pub located_room : (bs : List (Bucket K V)) (m : ℕ) → IsSpread R spread bs m → (k : K) (i : ℕ) (b : Bucket K V) → IsLocated spread bs k i b → HasRoom b m
   located_room bs m is k i b l = (located_bucket bs m is k i b l).room
 
-  -- the values of k are edited in its bucket, of which `old` shows the values
+  -- the values of k are edited in its bucket; `old` gives all values before the edit
   module _ (agrees : (a b : K) → is_eq (R a b) ≡ true → spread a ≡ spread b) (bs : List (Bucket K V)) (m n i : ℕ) (b c : Bucket K V) (is : IsSpread R spread bs m) (le : n ≤ m) (sorted : IsSorted R c)
       (room : HasRoom c n) where
     module _ (k : K) (l : IsLocated spread bs k i b) (new : List V) (edit : (q : K) → bucket_values R c q ≡ cond (is_eq (R k q)) new (bucket_values R b q)) where
@@ -260,12 +260,12 @@ module _ {K V : Type 0} (R : K → K → Ordering) (spread : K → ℕ) where
       pub put_values : (old : K → List V) → ((q : K) → values_of R (entries_of bs) q ≡ old q) → (q : K) → values_of R (entries_of (set bs i c)) q ≡ cond (is_eq (R k q)) new (old q)
       put_values old shown q = one_values R spread agrees bs i m n c b is l.within le sorted room k l.at new there q ∙ ap (λ (vs : List V). cond (is_eq (R k q)) new vs) (shown q)
 
-  -- what the bucket shows is what `old` shows
+  -- the bucket has the values of k in `old`
   pub located_shown : (bs : List (Bucket K V)) (m : ℕ) → IsSpread R spread bs m → (k : K) (i : ℕ) (b : Bucket K V) → IsLocated spread bs k i b
       → (old : K → List V) → ((q : K) → values_of R (entries_of bs) q ≡ old q) → bucket_values R b k ≡ old k
   located_shown bs m is k i b l old shown = sym (located_values bs m is k i b l) ∙ shown k
 
-  -- they become what `new` makes of them, and a place of the room is taken where `taken` is true
+  -- the values become `new` of the old ones, and a reserved slot is used if `taken` is true
   module _ (agrees : (a b : K) → is_eq (R a b) ≡ true → spread a ≡ spread b) (bs : List (Bucket K V)) (m n i : ℕ) (b c : Bucket K V) (taken : Bool) (is : IsSpread R spread bs m) (some : 0 < m)
       (less : n ≡ bool_byte taken) where
     module _ (k : K) (l : IsLocated spread bs k i b) (new : List V → List V) (edit : IsEdited R b c k (new (bucket_values R b k)) (cond taken 1 0)) where
@@ -280,7 +280,7 @@ module _ {K V : Type 0} (R : K → K → Ordering) (spread : K → ℕ) where
           put_values agrees bs m (m - n) i b c is (omega arith) edit.sorted left k l _ edit.values old shown q
           ∙ ap (λ (vs : List V). cond (is_eq (R k q)) (new vs) (old q)) (located_shown bs m is k i b l old shown)
 
--- each of the n buckets is empty
+-- all n buckets are empty
 pub record AreNew {K V : Type 0} (R : K → K → Ordering) (bs : List (Bucket K V)) (n : ℕ) : Type 0 where
   pub empty : AreEmpty R bs
   pub count : length bs ≡ n

@@ -1,4 +1,4 @@
--- What is left of a list where its last matches are taken out one by one.
+-- What is left of a list after its last matches are removed one by one.
 use Rattle.std.proofs.Common.{◌≡◌, ℕ, zero, suc, ◌+◌, ◌-◌, ◌<◌, ◌≤◌, Bool, true, false, cond, not, ◌&&◌, ◌||◌, List, [], ◌∷◌, ◌++◌, length, get_or, filter, Some, None, refl, sym, ◌∙◌, ap, arith}
 use Rattle.std.specs.List.{list_any, count_by, remove}
 use Rattle.std.proofs.lemmas.List.Sums.{sum_by-cons, sum_by_push, length-filter}
@@ -30,7 +30,7 @@ module _ {A : Type 0} (p : A → Bool) where
       ap (λ (b : Bool). cond b (x ∷ without_last p xs) (cond (p x) xs (x ∷ xs))) (any_at xs i x (omega arith) (at x))
       ∙ ap (λ (ys : List A). x ∷ ys) (without_at xs i (omega arith) at (λ k d a b. behind (suc k) d (omega arith) (omega arith)))
 
-  -- where the last match is, and where there is none
+  -- if the last match is at i, it is removed; if there is none, nothing is
   pub last_there : (xs : List A) (i : ℕ) → IsLastPlace p xs (Some i) → without_last p xs ≡ remove xs i
   last_there xs i h = without_at xs i h.0 h.1 h.2
 
@@ -75,7 +75,7 @@ module _ {A : Type 0} (p : A → Bool) where
       go false any true e ih = omega (arith, count_yes x xs e)
       go false any false e ih = omega (arith, count_no x xs e, count_none xs any)
 
-  -- whatever does not pass stays
+  -- elements that do not pass stay
   pub filter_last : (xs : List A) → filter (λ x. not (p x)) (without_last p xs) ≡ filter (λ x. not (p x)) xs
   filter_last [] = refl
   filter_last (x ∷ xs) = go (list_any p xs) (p x) refl (filter_last xs)
@@ -102,16 +102,16 @@ module _ {A : Type 0} (p : A → Bool) where
   filter_lasts zero xs = refl
   filter_lasts (suc n) xs = filter_last (without_lasts n p xs) ∙ filter_lasts n xs
 
-  -- the last n are all, where no more than n pass
+  -- if at most n elements pass, removing the last n matches removes all that pass
   pub without_all : (n : ℕ) (xs : List A) → count_by p xs ≤ n → without_lasts n p xs ≡ filter (λ x. not (p x)) xs
   without_all n xs le = sym (filter_all (without_lasts n p xs) (omega (arith, count_lasts n xs))) ∙ filter_lasts n xs
 
-  -- the last one, and then n more
+  -- removing the last match and then n more removes n + 1
   pub lasts_after : (n : ℕ) (xs : List A) → without_lasts n p (without_last p xs) ≡ without_lasts (suc n) p xs
   lasts_after zero xs = refl
   lasts_after (suc n) xs = ap (without_last p) (lasts_after n xs)
 
-  -- what passes a second test passes the first, so the first takes away none of them
+  -- if p implies r, filtering by r keeps the number of elements that pass p
   pub count_kept : (r : A → Bool) (xs : List A) → ((x : A) → p x ≡ true → r x ≡ true) → count_by p (filter r xs) ≡ count_by p xs
   count_kept r [] f = refl
   count_kept r (x ∷ xs) f = go (r x) refl (p x) refl (count_kept r xs f)
@@ -122,7 +122,7 @@ module _ {A : Type 0} (p : A → Bool) where
       go false e true h ih = absurd (let z : true ≡ false = sym (f x h) ∙ e in cc)
       go false e false h ih = omega (arith, count_no x xs h, ih)
 
-  -- one less passes, until none is left
+  -- removing a match lowers the number that pass by one; if none passes, nothing is removed
   pub fewer_pass : (xs : List A) (n : ℕ) → length (filter p xs) ≡ suc n → length (filter p (without_last p xs)) ≡ n
   fewer_pass xs n h = omega (arith, length-filter p xs, length-filter p (without_last p xs), count_last xs)
 

@@ -1,11 +1,11 @@
--- Keys that are transactions.
+-- Transactions as keys.
 use Rattle.std.proofs.Common.{◌≡◌, ℕ, true, eqb, ap, arith}
 use Rattle.std.proofs.lemmas.Bool.{eqb-true}
 use Rattle.std.proofs.lemmas.Bool.Decides.{nat_tests}
 use Rattle.std.specs.Ordering.{is_eq, nat_cmp}
 use Rattle.teb_names.specs.declared.Txn.{Txn}
 
--- two numbers tie where they are one
+-- two numbers tie if and only if they are equal
 pub eqb-is_eq : (m n : ℕ) → eqb m n ≡ is_eq (nat_cmp m n)
 eqb-is_eq m n = grind (arith, nat_tests)
 

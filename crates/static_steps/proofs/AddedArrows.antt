@@ -13,7 +13,7 @@ use Rattle.static_steps.specs.Squares.{is_in, leads_in}
 use Rattle.static_steps.proofs.Bits.{none_in}
 use Rattle.static_steps.proofs.Square.{or_both}
 
--- those of the first table, and then those of the others
+-- the arrows of the first table, then those of the other tables
 pub tables_added : (tables : List Table) (rows mid new : List ℕ) (from later : ℕ) → 1 ≤ length tables → from ≡ (get_or tables 0 (record { 0 = 0 })).0 →
     ((a b : ℕ) → leads_in mid a b ≡ (leads_in rows a b || (eqb from a && is_in later b))) →
     ((a b : ℕ) → leads_in new a b ≡ (leads_in mid a b || (among a (numbers_of (take (length tables - 1) (drop 1 tables))) && is_in later b))) →
@@ -30,7 +30,7 @@ regroup false true false = refl
 regroup false false true = refl
 regroup false false false = refl
 
--- those of the steps behind, and then those of the step
+-- the arrows of the later steps, then those of the step
 pub step_added : (steps : List (List ℕ)) (from : ℕ) (rows mid new : List ℕ) (tables : List ℕ) (own behind later : ℕ) → from < length steps → tables ≡ get_or steps from [] →
     ((b : ℕ) → is_in own b ≡ among b tables) →
     ((b : ℕ) → is_in behind b ≡ list_any (among b) (drop (from + 1) steps)) →
@@ -47,7 +47,7 @@ any-map : {X Y : Type 0} (p : Y → Bool) (h : X → Y) (xs : List X) → list_a
 any-map p h [] = refl
 any-map p h (x ∷ xs) = ap (λ (b : Bool). p (h x) || b) (any-map p h xs)
 
--- those of one profile more
+-- the arrows of one more profile
 pub profile_added : (ps : List (List (List ℕ))) (kinds : List Kind) (i : ℕ) (d : Kind) (old new : List ℕ) → i < length kinds →
     ((a b : ℕ) → leads_in old a b ≡ arrow (profiles_of ps (take i kinds)) a b) →
     ((a b : ℕ) → leads_in new a b ≡ (leads_in old a b || leads (get_or ps (get_or kinds i d).0 []) a b)) →
@@ -59,18 +59,18 @@ profile_added ps kinds i d old new h f g a b =
     g a b ∙ rw (f a b, any-map steps_lead steps_of_kind (take i kinds), any-map steps_lead steps_of_kind (take (i + 1) kinds))
     (sym (list_any_more (λ (k : Kind). leads (get_or ps k.0 []) a b) kinds i d h))
 
--- the first of some tables is among them
+-- the first of a list of tables is below the list's bound
 pub first_named : (tables : List Table) → 1 ≤ length tables → (get_or tables 0 (record { 0 = 0 })).0 < above (numbers_of tables)
 first_named [] h = absurd (omega arith)
 first_named (t ∷ ts) h = omega arith
 
--- whatever one of the profiles names is named by them together
+-- the tables of one profile are below the bound of all profiles
 pub within_all : (ps : List (List (List ℕ))) (kinds : List Kind) (i : ℕ) (d : Kind) → i < length kinds → above_steps (get_or ps (get_or kinds i d).0 []) ≤ above_profiles (profiles_of ps kinds)
 within_all ps [] i d h = absurd (omega arith)
 within_all ps (k ∷ ks) zero d h = omega arith
 within_all ps (k ∷ ks) (suc i) d h = let r = within_all ps ks i d (omega arith) in omega arith
 
--- the rows that the arrows are added to
+-- the empty rows have no arrows
 pub no_arrows : (n a b : ℕ) → leads_in (replicate n 0) a b ≡ false
 unfolding leads_in
 no_arrows zero a b = none_in b

@@ -6,11 +6,11 @@ use Rattle.teb_names.proofs.Bools.{or_false}
 use Rattle.static_steps.specs.Squares.{is_in, leads_in, closure}
 use Rattle.static_steps.proofs.Square.{no_row}
 
--- a row, closed through one table
+-- a row after the closure through table m
 abbrev pub through_row : List ℕ → ℕ → ℕ → ℕ → Bool
 through_row rows m a b = leads_in rows a b || (leads_in rows a m && leads_in rows m b)
 
--- row i has the table, and is joined with that table's row
+-- row i has the table, so the table's row is added to it
 pub row_closed : (old rows : List ℕ) (i m n r : ℕ) → i < length rows → n ≡ m →
     ((a b : ℕ) → a < i → leads_in rows a b ≡ through_row old m a b) → ((a : ℕ) → i ≤ a → get_or rows a 0 ≡ get_or old a 0) →
     is_in (get_or rows i 0) m ≡ true → ((b : ℕ) → is_in r b ≡ (is_in (get_or rows i 0) b || is_in (get_or old n 0) b)) →
@@ -29,7 +29,7 @@ row_closed old rows i m n r h q f g has join = (
   (λ a le. let ne : a ≢ i = omega arith in get_or-set_other rows i a r 0 ne ∙ g a (omega arith)),
 )
 
--- row i does not have the table
+-- row i does not have the table and stays
 pub row_kept : (old rows : List ℕ) (i m : ℕ) → ((a b : ℕ) → a < i → leads_in rows a b ≡ through_row old m a b) → ((a : ℕ) → i ≤ a → get_or rows a 0 ≡ get_or old a 0) →
     is_in (get_or rows i 0) m ≡ false →
     ((a b : ℕ) → a < i + 1 → leads_in rows a b ≡ through_row old m a b) × ((a : ℕ) → i + 1 ≤ a → get_or rows a 0 ≡ get_or old a 0)
@@ -45,14 +45,14 @@ row_kept old rows i m f g has_not = (
   (λ a le. g a (omega arith)),
 )
 
--- one table more to go through
+-- the closure through one more table
 pub closure_more : (r : ℕ → ℕ → Bool) (old new : List ℕ) (m : ℕ) → ((a b : ℕ) → leads_in old a b ≡ closure r m a b) →
     ((a b : ℕ) → leads_in new a b ≡ (leads_in old a b || (leads_in old a m && leads_in old m b))) →
     (a b : ℕ) → leads_in new a b ≡ closure r (suc m) a b
 unfolding closure
 closure_more r old new m f g a b = g a b ∙ rw (f a b, f a m, f m b) refl
 
--- the closure of the arrows is what reaches
+-- the closure of the arrows is the relation `reaches`
 pub closure_reaches : (ps : List (List (List ℕ))) (r : ℕ → ℕ → Bool) → ((a b : ℕ) → r a b ≡ arrow ps a b) → (m a b : ℕ) → closure r m a b ≡ reaches ps m a b
 unfolding closure reaches
 closure_reaches ps r f zero a b = f a b
@@ -62,7 +62,7 @@ closure_reaches ps r f (suc m) a b =
     let s = closure_reaches ps r f m m b in
     rw (p, q, s) refl
 
--- all rows are closed, and there is nothing past them
+-- all rows are closed, and there are none after them
 pub past_all : (old rows : List ℕ) (i m : ℕ) → length old ≤ i → length rows ≡ length old → ((a b : ℕ) → a < i → leads_in rows a b ≡ through_row old m a b) →
     (a b : ℕ) → leads_in rows a b ≡ through_row old m a b
 past_all old rows i m h e f a b = elim (cases_lt a i) [

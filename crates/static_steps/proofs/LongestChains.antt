@@ -1,4 +1,4 @@
--- The longest chains, table by table and link by link.
+-- The longest chains, by table and by link.
 use Rattle.std.proofs.Common.{◌≡◌, ℕ, zero, suc, ◌+◌, ◌<◌, ◌≤◌, Bool, true, false, cond, not, ◌&&◌, ◌++◌, max, List, [], ◌∷◌, length, get_or, filter, map, refl, ◌∙◌, ap, arith, add-one}
 use Rattle.std.proofs.lemmas.List.Elements.{filter-append, filter_agree}
 use Rattle.std.proofs.lemmas.List.{map-append}
@@ -12,7 +12,7 @@ greatest-append : (xs ys : List ℕ) → greatest (xs ++ ys) ≡ max (greatest x
 greatest-append [] ys = omega arith
 greatest-append (x ∷ xs) ys = let r = greatest-append xs ys in omega arith
 
--- one table more, which is ahead
+-- one more table, which is ahead
 pub longest_takes : (p : ℕ → Bool) (f : ℕ → ℕ) (n : ℕ) → p n ≡ true → greatest (map f (filter p (below (n + 1)))) ≡ max (greatest (map f (filter p (below n)))) (f n)
 unfolding below
 longest_takes p f n e =
@@ -20,7 +20,7 @@ longest_takes p f n e =
     rw add-one (ap greatest (ap (map f) (filter-append p (below n) (n ∷ [])) ∙ map-append f (filter p (below n)) (filter p (n ∷ [])))
     ∙ greatest-append (map f (filter p (below n))) (map f (filter p (n ∷ []))) ∙ ap (max (greatest (map f (filter p (below n))))) own)
 
--- and one that is not
+-- one more table, which is not ahead
 pub longest_keeps : (p : ℕ → Bool) (f : ℕ → ℕ) (n : ℕ) → p n ≡ false → greatest (map f (filter p (below (n + 1)))) ≡ greatest (map f (filter p (below n)))
 unfolding below
 longest_keeps p f n e =
@@ -35,7 +35,7 @@ greatest_below : (f : ℕ → ℕ) (xs : List ℕ) (d : ℕ) → ((x : ℕ) → 
 greatest_below f [] d h = omega arith
 greatest_below f (x ∷ xs) d h = let r = greatest_below f xs d h in let q = h x in omega arith
 
--- a chain of at most d links is no longer
+-- the longest chain of at most d links has at most d links
 pub longest_in-le : (rows : List ℕ) (d b : ℕ) → longest_in rows d b ≤ d
 unfolding longest_in
 longest_in-le rows zero b = omega arith
@@ -53,7 +53,7 @@ map_below p f g (suc n) h =
     own true = ap (λ (z : ℕ). z ∷ []) (h n (omega arith))
     own false = refl
 
--- one link more
+-- chains with one more link
 pub longest_more : (rows chains : List ℕ) (d b : ℕ) → ((a : ℕ) → a < length rows → get_or chains a 0 ≡ longest_in rows d a)
     → greatest (map (λ a. suc (get_or chains a 0)) (ahead_in rows b)) ≡ longest_in rows (d + 1) b
 unfolding longest_in ahead_in
@@ -67,13 +67,13 @@ same_ahead : (ps : List (List (List ℕ))) (rows : List ℕ) (m : ℕ) → lengt
 unfolding ahead_in ahead
 same_ahead ps rows m e h b = rw e (filter_agree (is_ahead rows b) (λ a. reaches ps m a b && not (reaches ps m b a)) (λ a. rw (h a b, h b a) refl) (below m))
 
--- chains in rows that say what reaches are chains of tables
+-- if the rows are the relation `reaches`, the chains in the rows are chains of tables
 pub longest_in-is : (ps : List (List (List ℕ))) (rows : List ℕ) (m : ℕ) → length rows ≡ m → ((a b : ℕ) → leads_in rows a b ≡ reaches ps m a b) → (d b : ℕ) → longest_in rows d b ≡ longest ps m d b
 unfolding longest_in longest
 longest_in-is ps rows m e h zero b = refl
 longest_in-is ps rows m e h (suc d) b =
     rw (same_ahead ps rows m e h b) (ap greatest (map_same (λ a. suc (longest_in rows d a)) (λ a. suc (longest ps m d a)) (λ a. ap suc (longest_in-is ps rows m e h d a)) (ahead ps m b)))
 
--- the greater of two numbers, as the code takes it
+-- the maximum of two numbers, as the code computes it
 pub nat_max : (x y : ℕ) → ord_max nat_cmp x y ≡ max x y
 nat_max x y = grind (arith, common_steps)

@@ -1,4 +1,4 @@
--- What a vector holds after a slice of all of it was written.
+-- The contents of a vector after a slice of the whole vector was written.
 use Rattle.std.proofs.Common.{◌≡◌, ℕ, List, ◌++◌, length, take, drop, arith}
 use Rattle.std.proofs.lemmas.List.{append-nil, drop_all, take_all}
 

@@ -1,4 +1,4 @@
--- How a store goes on to the next epoch.
+-- How a store moves to the next epoch.
 use Rattle.std.proofs.Common.{◌≡◌, Result, Ok, Err, ℕ, false, List, [], ◌∷◌, ◌++◌, length, length-append, refl, sym, ◌∙◌, ap, subst, arith}
 use Rattle.std.specs.Prelude.{IfOk, MatchResult}
 use mathlib.Core.Logic.{∥∥₁_map}
@@ -31,7 +31,7 @@ abbrev pub view_or : SetupView → Result SetupView TreeText → SetupView
 view_or v (Ok w) = w
 view_or v (Err e) = v
 
--- a store with the types, tree and tables of a setup that was read from the text
+-- a store with the types, tree and tables of a setup that was read from a text
 pub reads_tree : (text : List ℕ) (s : Setup) (X : Store) → setup_of_text text ≡ Ok (setup_view s) → X.setup ≡ (store_of s).setup → X.tables ≡ (store_of s).tables → IsTreeOf text X
 reads_tree text s X read setup tables = λ m other. let same : setup_view s ≡ m = ap (view_or m) (sym read ∙ other) in
     (setup ∙ ap (λ (v : SetupView). (store_of_view v).setup) same, tables ∙ ap (λ (v : SetupView). (store_of_view v).tables) same)
@@ -47,7 +47,7 @@ begins_next text s old new t read may i = let same = t (setup_view s) read in re
   events = i.events;
 }
 
--- none waits if those that wait are the commits since now
+-- if the waiting records are the commits since now, none waits
 pub none_waits : (X : Store) (H : List Event) (rs : List Record) → ∥ AreCommitsSince X H H rs ∥₁ → rs ≡ []
 none_waits X H [] since = refl
 none_waits X H (r ∷ rs) since = absurd (∥∥₁_rec (λ x y. absurd x) (λ is. too_long (records_of X.setup H) r rs is) since)
@@ -55,11 +55,11 @@ none_waits X H (r ∷ rs) since = absurd (∥∥₁_rec (λ x y. absurd x) (λ i
     too_long : (qs : List Record) (r : Record) (rs : List Record) → qs ≡ qs ++ r ∷ rs → ⊥
     too_long qs r rs is = omega (arith, ap length is, length-append qs (r ∷ rs))
 
--- the commits since a history without any
+-- there are no commits since a history that has none
 pub none_since_first : (X : Store) (H : List Event) (rs : List Record) → H ≡ [] → rs ≡ [] → AreCommitsSince X [] H rs
 none_since_first X H rs empty none = subst (λ (G : List Event). AreCommitsSince X [] G rs) (sym empty) (none_since X [] rs none)
 
--- of a result of this kind
+-- what holds of each Ok value holds of this one
 pub of_ok : {T E : Type 0} (r : Result T E) (v : T) (P : T → Type 0) → r ≡ Ok v → IfOk r P → P v
 of_ok {T} {E} r v P is p = let Q : Result T E → Type 0 = λ x. IfOk x P in subst Q is p
 
@@ -67,11 +67,11 @@ pub of_match : {T E : Type 0} (r : Result T E) (v : T) (P : T → Type 0) (Q : E
 of_match {T} {E} r v P Q is p = let R : Result T E → Type 0 = λ x. MatchResult x P Q in subst R is p
 
 module _ {D : Type 0} (seen : D → List ℕ) (may_leave : D → List ℕ → Type 0) where
-  -- a log that keeps no commit
+  -- a log without commits
   pub keeps_none : (X : Store) (H : List Event) (n : ℕ) (j : JournalState D) → H ≡ [] → n ≡ 0 → KeepsCommits seen may_leave X H n j → KeepsCommits seen may_leave X [] 0 j
   keeps_none X H n j empty zero keeps = subst (λ (x : List Event × ℕ). KeepsCommits seen may_leave X x.0 x.1 j) (λ i. (empty i, zero i)) keeps
 
-  -- the next epoch has begun in both halves
+  -- the next epoch has begun in the engine and in the log
   pub begins_halves : (text : List ℕ) (s : Setup) (old : EngineModel) (new : Queue EngineModel) (j k : JournalState D) → IsTreeOf text old.store → setup_of_text text ≡ Ok (setup_view s)
       → MayFollow old s.names.tables → IsStarted s old new.engine
       → new.waiting ≡ [] → ∥ KeepsCommits seen may_leave old.store old.events (commit_count old.events) j ∥₁
@@ -86,7 +86,7 @@ module _ {D : Type 0} (seen : D → List ℕ) (may_leave : D → List ℕ → Ty
     runs,
   )
 
-  -- it has not
+  -- the next epoch has not begun
   pub stays_halves : (old back : Queue EngineModel) (j k : JournalState D) → back ≡ old → ∥ AreCommitsSince old.engine.store old.engine.events old.engine.events old.waiting ∥₁
       → ∥ KeepsCommits seen may_leave old.engine.store old.engine.events (commit_count old.engine.events) j ∥₁
       → ((n : ℕ) → KeepsCommits seen may_leave old.engine.store old.engine.events n j → KeepsCommits seen may_leave old.engine.store old.engine.events n k)

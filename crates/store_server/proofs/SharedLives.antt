@@ -1,4 +1,4 @@
--- The life of a shared store goes on as one serial run.
+-- The life of a shared store continues as one serial run.
 use Rattle.std.proofs.Common.{◌≡◌, ◌∙◌, ◌++◌, ◌∷◌, [], Some, List, sym, ap, refl, subst, append-nil, append_assoc}
 use mathlib.Core.Logic.{∥∥₁_map}
 use Rattle.teb_names.specs.declared.Cell.{Cell}
@@ -18,7 +18,7 @@ use Rattle.shared_store.specs.Stages.{IsNextEpoch, Stage}
 use Rattle.store_server.specs.Serial.{SharedLivesAreSerial, stage_at}
 
 module _ (T : Values) where
-  -- further epochs, the last of which stands at this stage
+  -- there are further epochs, the last of which is at this stage
   pub record Reaches (past : List Epoch) (h : Stage) : Type 0 where
     pub later : List Epoch
     pub present : EngineModel

@@ -1,4 +1,4 @@
--- Lists that ascend by a key: what a search finds in them, and what an edit at that place makes.
+-- Lists that ascend by a key: what a search finds in them, and the result of an edit at the found place.
 use Rattle.std.proofs.Common.{◌≡◌, ◌≢◌, ℕ, zero, suc, ◌<◌, ◌≤◌, ◌-◌, Bool, true, false, cond, not, ltb, eqb, List, [], ◌∷◌, length, filter, get_or, set, Result, Ok, Err, refl, sym, ◌∙◌, ap, subst, arith, lt-ltb, le-ltb, ◌⊎◌, inl, inr, eq-eqb}
 use Rattle.std.specs.List.{insert, remove}
 use Rattle.std.specs.List.Sorted.{IsSearchInRange, IsBinarySearchResult, IsNonDecreasingBy}
@@ -10,7 +10,7 @@ use Rattle.teb_history.proofs.Comparisons.{ltb_tells}
 use Rattle.teb_history.specs.Ascending.{AllAbove, IsAscendingBy, next_place, place_of, put_by}
 
 module _ {A : Type 0} (key : A → ℕ) where
-  -- by cases on how two keys compare
+  -- the place in x ∷ xs, by the three ways in which the key of x can compare with n
   pub place_below : (x : A) (xs : List A) (n : ℕ) → key x < n → place_of key (x ∷ xs) n ≡ next_place (place_of key xs n)
   place_below x xs n h = rw (lt-ltb (key x) n h) refl
 
@@ -35,11 +35,11 @@ module _ {A : Type 0} (key : A → ℕ) where
   higher : (a b n : ℕ) → a ≤ b → ordering_index (nat_cmp a n) ≤ ordering_index (nat_cmp b n)
   higher a b n le = grind (arith, nat_tests)
 
-  -- the comparisons with n rise along the list, as a binary search asks
+  -- the comparisons with n are non-decreasing along the list, as a binary search requires
   comparisons_rise : (xs : List A) → IsAscendingBy key xs → (n : ℕ) → IsNonDecreasingBy (λ x. ordering_index (nat_cmp (key x) n)) xs
   comparisons_rise xs h n i j d le l = higher (key (get_or xs i d)) (key (get_or xs j d)) n (keys_rise xs h i j d le l)
 
-  -- the place where the key was found, and the place between the smaller and the greater keys
+  -- a key that is in the list is found at its place; any other belongs between the smaller and the greater keys
   pub found_at : (xs : List A) → IsAscendingBy key xs → (n i : ℕ) (d : A) → i < length xs → key (get_or xs i d) ≡ n → Ok i ≡ place_of key xs n
   found_at [] h n i d l e = absurd (omega arith)
   found_at (x ∷ xs) h n zero d l e = sym (place_here x xs n e)
@@ -63,7 +63,7 @@ module _ {A : Type 0} (key : A → ℕ) where
       (λ k d lt. let rise = keys_rise xs h k (length xs - 1) d (omega arith) (omega arith) in let below = last d (omega arith) in omega arith)
       (λ k d le lt. absurd (omega arith))
 
-  -- a binary search by key ends at the place
+  -- a binary search by key returns the place
   pub searched : (xs : List A) → IsAscendingBy key xs → (n : ℕ) (r : Result ℕ ℕ) → IsSearchInRange r (length xs) → IsBinarySearchResult (λ x. nat_cmp (key x) n) xs r → r ≡ place_of key xs n
   searched [] h n (Ok i) l e = absurd (omega arith)
   searched (x ∷ xs) h n (Ok i) l e = found_at (x ∷ xs) h n i x l (ranked _ n _ (sym (e x)))
@@ -71,7 +71,7 @@ module _ {A : Type 0} (key : A → ℕ) where
       let both = parted (comparisons_rise xs h n) in
       gap_at xs n i l (λ k d lt. ranked _ n _ (sym (both.0 k d (omega arith) lt))) (λ k d le lt. ranked _ n _ (sym (both.1 k d le lt)))
 
-  -- what stands at the place has the key
+  -- the element at the place has the key
   pub place_in : (xs : List A) (n i : ℕ) → place_of key xs n ≡ Ok i → i < length xs
   place_in [] n i h = absurd (cc)
   place_in (x ∷ xs) n i h = go (ltb (key x) n) (eqb (key x) n) (place_of key xs n) (λ j e. place_in xs n j e) h
@@ -102,7 +102,7 @@ module _ {A : Type 0} (key : A → ℕ) where
       go false true r ih h = absurd (cc)
       go false false r ih h = let e : 0 ≡ i = cc in omega arith
 
-  -- where the key was found, an edit writes over the element; where it was not, it goes into the gap
+  -- if the key is found, an edit overwrites the element; if not, it inserts at the gap
   pub put-set : (a : A) (xs : List A) (i : ℕ) → place_of key xs (key a) ≡ Ok i → put_by key a xs ≡ set xs i a
   put-set a [] i h = absurd (cc)
   put-set a (x ∷ xs) i h = go (ltb (key x) (key a)) (eqb (key x) (key a)) (place_of key xs (key a)) (λ j e. put-set a xs j e) h
@@ -125,14 +125,14 @@ module _ {A : Type 0} (key : A → ℕ) where
       go false true r ih h = absurd (cc)
       go false false r ih h = let e : 0 ≡ i = cc in subst (λ (k : ℕ). a ∷ x ∷ xs ≡ insert (x ∷ xs) k a) e refl
 
-  -- an edit over what an edit put in
+  -- setting an element that was just inserted is the same as inserting the new value
   pub set-insert : (xs : List A) (i : ℕ) (a b : A) → i ≤ length xs → set (insert xs i a) i b ≡ insert xs i b
   set-insert [] zero a b l = refl
   set-insert [] (suc i) a b l = absurd (omega arith)
   set-insert (x ∷ xs) zero a b l = refl
   set-insert (x ∷ xs) (suc i) a b l = ap (λ (ys : List A). x ∷ ys) (set-insert xs i a b (omega arith))
 
-  -- what is there already, where elements of one key are one
+  -- putting an element that is already in the list changes nothing, if elements with equal keys are equal
   pub put-same : (a : A) → ((x : A) → key x ≡ key a → x ≡ a) → (xs : List A) (i : ℕ) → place_of key xs (key a) ≡ Ok i → xs ≡ put_by key a xs
   put-same a one [] i h = absurd (cc)
   put-same a one (x ∷ xs) i h = go (ltb (key x) (key a)) (eqb (key x) (key a)) refl (place_of key xs (key a)) (λ j e. put-same a one xs j e) h
@@ -157,7 +157,7 @@ module _ {A : Type 0} (key : A → ℕ) where
   above-mono m n [] l h = tt
   above-mono m n (x ∷ xs) l h = (omega (arith, h.0), above-mono m n xs l h.1)
 
-  -- an edit keeps the order
+  -- an edit keeps the list ascending
   pub ascending-put : (a : A) (xs : List A) → IsAscendingBy key xs → IsAscendingBy key (put_by key a xs)
   ascending-put a [] h = (tt, tt)
   ascending-put a (x ∷ xs) h = go (ltb_tells (key x) (key a)) (eqb_tells (key x) (key a)) (ascending-put a xs h.1)
@@ -185,12 +185,12 @@ module _ {A : Type 0} (key : A → ℕ) where
       go true ih = (above-filter (key x) p xs h.0, ih)
       go false ih = ih
 
-  -- those above n have other keys
+  -- elements above n have other keys
   filter-others : (n : ℕ) (xs : List A) → AllAbove key n xs → xs ≡ filter (λ x. not (eqb (key x) n)) xs
   filter-others n [] h = refl
   filter-others n (x ∷ xs) h = let l = h.0 in rw (ne_eqb (key x) n (λ e. omega arith)) (ap (λ (ys : List A). x ∷ ys) (filter-others n xs h.1))
 
-  -- where the key was found, one place is taken out, and the others have other keys; where it was not, all have other keys
+  -- removing a key filters it out: if it is found, one element is removed; if not, no element has the key
   pub remove-filter : (xs : List A) → IsAscendingBy key xs → (n i : ℕ) → place_of key xs n ≡ Ok i → remove xs i ≡ filter (λ x. not (eqb (key x) n)) xs
   remove-filter [] a n i h = absurd (cc)
   remove-filter (x ∷ xs) a n i h = go (ltb (key x) n) refl (eqb (key x) n) refl (place_of key xs n) (λ j e. remove-filter xs a.1 n j e) h
@@ -219,7 +219,7 @@ module _ {A : Type 0} (key : A → ℕ) where
       go false p true q r ih h = absurd (cc)
       go false p false q r ih h = ap (λ (ys : List A). x ∷ ys) (filter-others n xs (above-mono n (key x) xs (ltb-false _ _ p) a.0))
 
-  -- tests that agree on the elements above n
+  -- tests that agree on the elements above n select the same ones from them
   filter-above : (n : ℕ) (p q : A → Bool) → ((x : A) → n < key x → q x ≡ p x) → (xs : List A) → AllAbove key n xs → filter q xs ≡ filter p xs
   filter-above n p q same [] h = refl
   filter-above n p q same (x ∷ xs) h = λ j. cond (same x h.0 j) (x ∷ filter-above n p q same xs h.1 j) (filter-above n p q same xs h.1 j)
@@ -228,7 +228,7 @@ module _ {A : Type 0} (key : A → ℕ) where
   put-front a [] h = refl
   put-front a (x ∷ xs) h = let l = h.0 in rw (le-ltb (key x) (key a) (omega arith), ne_eqb (key x) (key a) (λ e. omega arith)) refl
 
-  -- those that pass, where a newly passes and nobody else changes
+  -- the filtered list if a now passes and no other element changes
   pub filter-put_in : (a : A) (p q : A → Bool) → q a ≡ true → ((x : A) → key x ≢ key a → q x ≡ p x) → ((x : A) → key x ≡ key a → x ≡ a) → (xs : List A) → IsAscendingBy key xs
       → filter q (put_by key a xs) ≡ put_by key a (filter p xs)
   filter-put_in a p q here same one [] h = rw here refl
@@ -290,7 +290,7 @@ module _ {A : Type 0} (key : A → ℕ) where
       go (inr e) true r ih = ap (λ (b : Bool). cond b (x ∷ filter q xs) (filter q xs)) (same x e.1 ∙ r) ∙ ap (λ (ys : List A). x ∷ ys) ih ∙ rw e.0 refl
       go (inr e) false r ih = ap (λ (b : Bool). cond b (x ∷ filter q xs) (filter q xs)) (same x e.1 ∙ r) ∙ ih
 
-  -- those that pass, where a does not and nobody else changes
+  -- the filtered list if a does not pass and no other element changes
   pub filter-put_away : (a : A) (p q : A → Bool) → q a ≡ false → ((x : A) → key x ≢ key a → q x ≡ p x) → ((x : A) → key x ≡ key a → x ≡ a) → (xs : List A)
       → filter q (put_by key a xs) ≡ filter (λ x. not (eqb (key x) (key a))) (filter p xs)
   filter-put_away a p q gone same one xs = filter-put_out a q gone one xs ∙ filter-without a p q gone same one xs

@@ -11,7 +11,7 @@ use Rattle.teb_history.specs.OwnEvents.{event_txn, is_of, own_events, own_end, l
 reverse-cons : {A : Type 0} (x : A) (xs : List A) → reverse (x ∷ xs) ≡ reverse xs ++ x ∷ []
 reverse-cons x xs = reverse-append (x ∷ []) xs
 
--- reads of a reversed list: the head stands last
+-- x is last in the reverse of x ∷ xs, so the elements before it are those of the reverse of xs
 get_or-reverse_older : {A : Type 0} (x : A) (xs : List A) (i : ℕ) (d : A) → i < length xs → get_or (reverse (x ∷ xs)) i d ≡ get_or (reverse xs) i d
 get_or-reverse_older x xs i d h = ap (λ ys. get_or ys i d) (reverse-cons x xs) ∙ get_or_append_left (reverse xs) (x ∷ []) d i (omega (arith, length-reverse xs))
 
@@ -23,7 +23,7 @@ unfolding links
 length-links [] = refl
 length-links (e ∷ P) = ap suc (length-links P)
 
--- an end is among the events
+-- an end is at most the number of events
 pub own_end-le : (H : List Event) (t : ℕ) → own_end H t ≤ length H
 unfolding own_end
 own_end-le [] t = omega arith
@@ -64,7 +64,7 @@ length-upto n (e ∷ P) h = go (ltb_tells (length P) n) (length-upto n P)
     go (inl q) ih = ap (λ (b : Bool). length (cond b (e ∷ P) (upto n P))) q.0 ∙ (let l : suc (length P) ≡ n = omega (arith, q.1) in l)
     go (inr q) ih = ap (λ (b : Bool). length (cond b (e ∷ P) (upto n P))) q.0 ∙ ih q.1
 
--- one event more
+-- a prefix of the history that is one event longer
 pub upto-suc : (i : ℕ) (H : List Event) (d : Event) → i < length H → upto (i + 1) H ≡ get_or (reverse H) i d ∷ upto i H
 upto-suc i [] d h = absurd (omega arith)
 upto-suc i (e ∷ P) d h = go (ltb_tells i (length P)) (upto-suc i P d)
@@ -85,7 +85,7 @@ upto-suc i (e ∷ P) d h = go (ltb_tells i (length P)) (upto-suc i P d)
     go (inl q) ih = older q.1 (ih q.1)
     go (inr q) ih = newest q.1
 
--- the link of an event goes to the end of its transaction's events before it
+-- the link of an event is the end of its transaction's earlier events
 pub links-at : (i : ℕ) (H : List Event) (d : Event) → i < length H → get_or (reverse (links H)) i 0 ≡ own_end (upto i H) (event_txn (get_or (reverse H) i d)).0
 unfolding links
 links-at i [] d h = absurd (omega arith)
@@ -113,7 +113,7 @@ links-at i (e ∷ P) d h = go (ltb_tells i (length P)) (links-at i P d)
     go (inl q) ih = older q.1 (ih q.1)
     go (inr q) ih = newest q.1
 
--- the events from the newest of t's on are t's own
+-- the events that are linked from t's newest are t's own
 pub newest_own-end : (H : List Event) (t : ℕ) → newest_own (upto (own_end H t) H) ≡ own_events H t
 unfolding newest_own own_end own_events upto
 newest_own-end [] t = refl
@@ -126,7 +126,7 @@ newest_own-end (e ∷ P) t = go (is_of t e) refl (newest_own-end P t)
         ap newest_own (upto-newest e P) ∙ ap (λ (n : ℕ). filter (is_of n) (e ∷ P)) same ∙ ap (λ (b : Bool). cond b (e ∷ filter (is_of t) P) (filter (is_of t) P)) q
     go false q ih = ap newest_own (upto-older (own_end P t) e P (own_end-le P t)) ∙ ih
 
--- a step along the links
+-- one step along the links
 pub newest_own-step : (i : ℕ) (H : List Event) (d : Event) → i < length H → newest_own (upto (i + 1) H) ≡ get_or (reverse H) i d ∷ newest_own (upto (get_or (reverse (links H)) i 0) H)
 unfolding newest_own own_events
 newest_own-step i H d h =
@@ -142,12 +142,12 @@ unfolding upto
 upto-zero [] = refl
 upto-zero (e ∷ P) = rw (le-ltb (length P) 0 (omega arith)) (upto-zero P)
 
--- the same of events with the oldest first
+-- the same for events with the oldest first
 pub own_before-none : (events : List Event) (n : ℕ) → n ≡ 0 → own_before events n ≡ []
 unfolding newest_own
 own_before-none events n h = ap (own_before events) h ∙ ap newest_own (upto-zero (reverse events))
 
--- a link goes to an end among the events, whatever stands at the place
+-- a link is at most the number of events, whichever event it belongs to
 link_within : (events : List Event) (previous : List ℕ) (i : ℕ) → previous ≡ reverse (links (reverse events)) → i < length (reverse events) → get_or previous i 0 ≤ length events
 link_within [] previous i h l = absurd (omega arith)
 link_within (e ∷ es) previous i h l =

@@ -1,4 +1,4 @@
--- What a test on two numbers tells.
+-- What the result of a comparison of two numbers implies.
 use Rattle.std.proofs.Common.{◌≡◌, ◌<◌, ◌≤◌, ℕ, Bool, true, false, ltb, ◌⊎◌, inl, inr, refl}
 use Rattle.std.proofs.lemmas.Bool.{ltb-true, ltb-false}
 

@@ -1,4 +1,4 @@
--- The first transaction that passes a test which live ones alone pass is found among the live ones.
+-- The first transaction with a test that only live transactions pass is found among the live ones.
 use Rattle.std.proofs.Common.{◌≡◌, ℕ, zero, suc, ◌<◌, ◌≤◌, Bool, true, false, cond, ltb, leb, eqb, ◌&&◌, ◌||◌, List, [], ◌∷◌, ◌++◌, filter, Option, Some, None, find, ◌⊎◌, inl, inr, refl, sym, ◌∙◌, ap, subst, arith}
 use Rattle.std.proofs.lemmas.Bool.{eqb-true, eq-eqb, ltb-true, lt-ltb, leb-true, le-leb, cases_order}
 use Rattle.teb_names.specs.declared.Txn.{Txn}
@@ -18,7 +18,7 @@ both false b h = absurd (cc)
 clash : (b : Bool) → b ≡ true → b ≡ false → ⊥
 clash b h k = cc
 
--- the first number from 1 on that passes
+-- t is the first number from 1 to n that passes
 record IsFirstNumber (p : ℕ → Bool) (n t : ℕ) : Type 0 where
   passes : p t ≡ true
   above : 0 < t
@@ -59,7 +59,7 @@ numbered p (suc n) = go (find p (numbers n)) refl (numbered p n)
     go (Some t) q h = subst (λ (o : Option ℕ). Numbered p (suc n) o) (sym (find_append_some p (numbers n) (suc n ∷ []) t q))
         (record { passes = h.passes; above = h.above; within = omega (arith, h.within); first = h.first })
 
--- the first of an ascending list that passes
+-- t is the first element of an ascending list that passes
 record IsFirstTxn (q : Txn → Bool) (ts : List Txn) (t : Txn) : Type 0 where
   passes : q t ≡ true
   among : has t.0 ts ≡ true
@@ -134,7 +134,7 @@ filter-passes p (x ∷ xs) t h = go (p x) refl (eqb x.0 t.0) refl h (filter-pass
     go true e false f h ih = ih (sym (ap (λ (b : Bool). b || has t.0 (filter p xs)) f) ∙ h)
     go false e c f h ih = ih h
 
--- the list of the live ones has them, and nobody else
+-- a transaction is in the list of live transactions if and only if it is live
 live_mentioned : (H : List Event) (t : Txn) → is_live H t.0 ≡ true → has t.0 (mentioned H) ≡ true
 live_mentioned H t h = go (has t.0 (mentioned H)) refl
   where

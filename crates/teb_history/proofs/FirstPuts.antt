@@ -1,4 +1,4 @@
--- A transaction's first Put of a cell, found by a walk over its own events from the newest on.
+-- A transaction's first Put of a cell, found by walking its own events from the newest backward.
 use Rattle.std.proofs.Common.{◌≡◌, ℕ, suc, ◌+◌, ◌-◌, ◌<◌, ◌≤◌, Bool, true, false, cond, ◌&&◌, ltb, is_some, List, [], ◌∷◌, length, get_or, reverse, refl, sym, ◌∙◌, ap, subst, arith, lt-ltb, le-ltb, ltb-true}
 use Rattle.std.proofs.lemmas.Bool.{eqb-true, ltb-false}
 use Rattle.std.proofs.lemmas.List.{length-reverse, reverse-reverse}
@@ -11,12 +11,12 @@ use Rattle.teb_history.proofs.Any.{first_le}
 use Rattle.teb_history.proofs.OwnWalks.{put_own}
 use Rattle.teb_history.proofs.Chains.{own_end-le, upto-older, upto-newest, upto-upto, upto-suc, upto-zero, links-at, length-links, length-upto}
 
--- the position of t's first Put of x, and d where there is none
+-- the position of t's first Put of x, or d if there is none
 unfoldable pub first_put_or : List Event → ℕ → Cell → ℕ → ℕ
 first_put_or [] t x d = d
 first_put_or (e ∷ P) t x d = first_put_or P t x (cond (is_put t x e) (length P) d)
 
--- an end is the end of what stands before it
+-- the end of t's events is unchanged if the history is cut there
 pub own_end_own : (t : ℕ) (P : List Event) → own_end (upto (own_end P t) P) t ≡ own_end P t
 unfolding own_end upto
 own_end_own t [] = refl
@@ -48,7 +48,7 @@ module _ (t : ℕ) (x : Cell) where
       go true q h = sym h
       go false q h = (let z = ltb-false (put_at H t x) (length H) q in let y = first_le (newest (is_put t x)) H in let same : put_at H t x ≡ length H = omega arith in same) ∙ sym h
 
-  -- there is none among the events after t's newest
+  -- there is no Put of t after its last event
   first_put_or_own : (P : List Event) (d : ℕ) → first_put_or P t x d ≡ first_put_or (upto (own_end P t) P) t x d
   unfolding first_put_or own_end upto
   first_put_or_own [] d = refl
@@ -59,7 +59,7 @@ module _ (t : ℕ) (x : Cell) where
       go true q ih = ap (λ (Q : List Event). first_put_or Q t x d) (sym (upto-newest e P))
       go false q ih = ap (λ (b : Bool). first_put_or P t x (cond b (length P) d)) q ∙ ih ∙ ap (λ (Q : List Event). first_put_or Q t x d) (sym (upto-older (own_end P t) e P (own_end-le P t)))
 
-  -- how far the walk has come: at the end of t's events before `end`, with the first Put behind it, if any
+  -- the state of the walk: t's events before `end` remain, and `found` is t's first Put of x among the later ones, if there is one
   pub record IsWalked (H : List Event) (end found : ℕ) : Type 0 where
     pub within : end ≤ length H
     pub own : own_end (upto end H) t ≡ end
@@ -76,7 +76,7 @@ module _ (t : ℕ) (x : Cell) where
   unfolding first_put_or
   walk_ends H end first z w = w.first ∙ ap (λ (n : ℕ). first_put_or (upto n H) t x first) z ∙ ap (λ (Q : List Event). first_put_or Q t x first) (upto-zero H)
 
-  -- one event further back
+  -- the walk steps back over one event
   walk_over : (H : List Event) (i first : ℕ) (e : Event) (P : List Event) (m : ℕ) → i < length H → P ≡ upto i H → upto (i + 1) H ≡ e ∷ P → m ≡ own_end P (event_txn e).0
       → IsWalked H (i + 1) first → IsWalked H m (cond (is_some (put_in x e)) i first)
   unfolding first_put_or own_end
@@ -101,7 +101,7 @@ module _ (t : ℕ) (x : Cell) where
             first = f ∙ (λ j. first_put_or P t x (cond (p j) (long j) first)) ∙ first_put_or_own P _ ∙ ap (λ (Q : List Event). first_put_or Q t x (cond (is_some (put_in x e)) i first)) behind;
           })
 
-  -- the same of events with the oldest first and the links between them
+  -- the same for events with the oldest first and the links between them
   module _ (events : List Event) (previous : List ℕ) (linked : previous ≡ reverse (links (reverse events))) (end : ℕ) (some : 0 < end) (first : ℕ) (w : IsWalked (reverse events) end first) where
     pub walk_in : end - 1 < length events
     walk_in = omega (arith, w.within, length-reverse events)
@@ -116,7 +116,7 @@ module _ (t : ℕ) (x : Cell) where
     link_of e h = ap (λ (ns : List ℕ). get_or ns (end - 1) 0) linked ∙ links-at (end - 1) (reverse events) e walk_at
         ∙ ap (λ (d : Event). own_end (upto (end - 1) (reverse events)) (event_txn d).0) (ap (λ (es : List Event). get_or es (end - 1) e) (reverse-reverse events) ∙ sym h)
 
-    -- a link stands before its event
+    -- a link is less than its event's end
     pub walk_falls : (e : Event) → e ≡ get_or events (end - 1) e → get_or previous (end - 1) 0 < end
     walk_falls e h = omega (arith, link_of e h, own_end-le (upto (end - 1) (reverse events)) (event_txn e).0, length-upto (end - 1) (reverse events) (omega (arith, walk_at)))
 

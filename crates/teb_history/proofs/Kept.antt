@@ -1,4 +1,4 @@
--- What is kept beside the events, after one more event.
+-- The lists that are kept with the events, after one more event.
 use Rattle.std.proofs.Common.{◌≡◌, ℕ, suc, ◌+◌, Bool, true, false, cond, not, eqb, List, [], ◌∷◌, ◌++◌, length, filter, reverse, refl, sym, ◌∙◌, ap, arith, length-append}
 use Rattle.std.proofs.lemmas.Bool.{eq-eqb}
 use Rattle.std.proofs.lemmas.List.{reverse-append, length-reverse}
@@ -16,7 +16,7 @@ use Rattle.teb_history.proofs.Counting.{count_begin, count_other}
 use Rattle.teb_history.proofs.Standings.{standing_of-own, live_standing}
 use Rattle.teb_history.proofs.Mentioned.{standings-cons, live-cons}
 
--- beside no events
+-- the lists for no events
 pub kept_none : (events : List Event) (previous : List ℕ) (kept : List Standing) (live : List Txn) → events ≡ [] → previous ≡ [] → kept ≡ [] → live ≡ [] → IsKept events previous kept live 0
 unfolding links mentioned begun_count
 kept_none events previous kept live e p k l = record {
@@ -30,7 +30,7 @@ module _ (events events' : List Event) (event : Event) (pushed : events' ≡ eve
   pushed_back : reverse events' ≡ event ∷ reverse events
   pushed_back = ap reverse pushed ∙ reverse-append events (event ∷ [])
 
-  -- where the event's transaction stands then
+  -- the standing of the event's transaction before and after the event
   pub standing_then : (before after : Standing) → before ≡ standing_of (reverse events) (event_txn event).0 → after ≡ standing_after event (length events') before
       → after ≡ standing_of (reverse events') (event_txn event).0
   standing_then before after b a =

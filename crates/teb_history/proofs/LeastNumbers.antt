@@ -1,9 +1,9 @@
--- The least of the numbers from 1 on that passes a test.
+-- The least number from 1 on that passes a test.
 use Rattle.std.proofs.Common.{◌≡◌, ℕ, zero, suc, ◌<◌, ◌≤◌, Bool, true, false, cond, ◌||◌, min, List, [], ◌∷◌, ◌++◌, find, Option, Some, None, refl, sym, ◌∙◌, ap, subst, inl, inr, arith}
 use Rattle.std.proofs.lemmas.Bool.{cases_eq}
 use Rattle.teb_history.specs.Phases.{numbers}
 
--- tests that agree find the same, and one that nobody passes finds none
+-- tests that agree find the same, and a test that nothing passes finds nothing
 pub find_alike : {A : Type 0} (p q : A → Bool) → ((u : A) → p u ≡ q u) → (us : List A) → find p us ≡ find q us
 find_alike p q f [] = refl
 find_alike p q f (u ∷ us) = λ j. cond (f u j) (Some u) (find_alike p q f us j)
@@ -12,7 +12,7 @@ pub nobody : (us : List ℕ) → find (λ (u : ℕ). false) us ≡ None
 nobody [] = refl
 nobody (u ∷ us) = nobody us
 
--- the first that passes, or else one more number
+-- the number that was found, or else the next one if it passes
 unfoldable pub first_or : Bool → ℕ → Option ℕ → Option ℕ
 first_or b m None = cond b (Some m) None
 first_or b m (Some k) = Some k
@@ -26,14 +26,14 @@ find_end q (x ∷ xs) m = go (q x) (find_end q xs m)
     go true h = refl
     go false h = h
 
--- where none below w passes none is found
+-- if no number below w passes, none is found among them
 pub none_below : (q : ℕ → Bool) (w m : ℕ) → m < w → ((v : ℕ) → 0 < v → v < w → q v ≡ false) → find q (numbers m) ≡ None
 unfolding numbers first_or
 none_below q w zero lt f = refl
 none_below q w (suc m) lt f = find_end q (numbers m) (suc m) ∙ ap (first_or (q (suc m)) (suc m)) (none_below q w m (omega arith) f)
     ∙ ap (λ (o : Bool). cond o (Some (suc m)) None) (f (suc m) (omega arith) lt)
 
--- and w is found where it is the least that passes
+-- if w is the least number that passes, w is found
 pub numbers_find : (q : ℕ → Bool) (n w : ℕ) → 0 < w → w ≤ n → q w ≡ true → ((v : ℕ) → 0 < v → v < w → q v ≡ false) → find q (numbers n) ≡ Some w
 unfolding numbers first_or
 numbers_find q zero w p le h f = absurd (omega arith)
@@ -42,7 +42,7 @@ numbers_find q (suc n) w p le h f = find_end q (numbers n) (suc n) ∙ elim (cas
   | inr ne ↦ ap (first_or (q (suc n)) (suc n)) (numbers_find q n w p (omega arith) h f)
 ]
 
--- the lesser of two numbers that may be there
+-- the lesser of two optional numbers
 abbrev pub lesser : Option ℕ → Option ℕ → Option ℕ
 lesser None b = b
 lesser (Some a) None = Some a
@@ -81,7 +81,7 @@ merged n (Some a) None h k true false = refl
 merged n (Some a) None h k false false = refl
 merged n (Some a) (Some b) h k x y = refl
 
--- the least that passes one of two tests
+-- the least number that passes one of two tests
 pub find_either : (p q : ℕ → Bool) (n : ℕ) → find (λ u. p u || q u) (numbers n) ≡ lesser (find p (numbers n)) (find q (numbers n))
 unfolding numbers
 find_either p q zero = refl

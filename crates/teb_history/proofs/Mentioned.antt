@@ -1,4 +1,4 @@
--- The lists that are kept of the transactions, after one more event.
+-- The lists of transactions that are kept, after one more event.
 use Rattle.std.proofs.Common.{◌≡◌, ◌≢◌, ℕ, suc, ◌<◌, ◌≤◌, Bool, true, false, cond, not, ◌||◌, ltb, eqb, List, [], ◌∷◌, map, filter, get_or, Result, Ok, Err, ◌⊎◌, inl, inr, refl, sym, ◌∙◌, ap, subst, arith}
 use Rattle.std.specs.List.{list_any}
 use Rattle.std.proofs.lemmas.Bool.{eqb-true, ne_eqb}
@@ -14,7 +14,7 @@ use Rattle.teb_history.proofs.Comparisons.{ltb_tells}
 use Rattle.teb_history.proofs.AscendingLists.{ascending-put, ascending-filter, filter-put_in, filter-put_away}
 use Rattle.teb_history.proofs.Standings.{standing_of-other, standing_of-nothing, live_standing}
 
--- a transaction is its number
+-- transactions with equal numbers are equal
 one_of : (t u : Txn) → number_of t ≡ number_of u → t ≡ u
 one_of t u e = ap (λ (n : ℕ). record { 0 = n }) e
 
@@ -84,7 +84,7 @@ unfolding mentioned
 unmentioned [] t h = standing_of-nothing t
 unmentioned (e ∷ P) t h = let two = has-put t.0 (event_txn e) (mentioned P) h in standing_of-other e P t.0 two.0 ∙ unmentioned P t two.1
 
--- nor has one that has no place
+-- a list whose numbers are all above n has no transaction numbered n or less
 above-has : (n t : ℕ) (ts : List Txn) → t ≤ n → AllAbove number_of n ts → has t ts ≡ false
 unfolding has
 above-has n t [] l h = refl
@@ -112,7 +112,7 @@ no_place H t (u ∷ us) a i h = go (ltb_tells u.0 t) (eqb_tells u.0 t) (place_of
 pub standing-absent : (H : List Event) (t : Txn) (i : ℕ) → place_of standing_number (standings H) t.0 ≡ Err i → blank t ≡ standing_of H t.0
 standing-absent H t i h = sym (unmentioned H t (no_place H t.0 (mentioned H) (mentioned-ascending H) i h))
 
--- where t stands, found among the standings
+-- the standing of t, looked up in the list of standings
 pub standing_in-of : (H : List Event) (t : Txn) → standing_in (standings H) t ≡ standing_of H t.0
 standing_in-of H t = go (place_of standing_number (standings H) t.0) refl
   where

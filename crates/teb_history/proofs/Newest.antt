@@ -1,4 +1,4 @@
--- What the newest event changes of where each transaction stands and of what it has read and put.
+-- How the newest event changes each transaction's standing, and what it has read and put.
 use Rattle.std.proofs.Common.{◌≡◌, ℕ, Bool, not, ◌&&◌, ◌||◌, List, ◌∷◌, sym, ◌∙◌, ap}
 use Rattle.teb_names.specs.declared.Cell.{Cell}
 use Rattle.teb_history.specs.declared.Event.{Event}

@@ -1,4 +1,4 @@
--- A walk over a transaction's own events tells what a walk over the whole history tells.
+-- A walk over a transaction's own events gives the same results as a walk over the whole history.
 use Rattle.std.proofs.Common.{◌≡◌, ℕ, ℤ, Bool, true, false, cond, not, eqb, ◌&&◌, ◌||◌, List, [], ◌∷◌, filter, is_some, Option, Some, None, refl, sym, ◌∙◌, ap}
 use Rattle.std.specs.List.{list_any}
 use Rattle.std.specs.Option.{option_or}
@@ -11,7 +11,7 @@ use Rattle.teb_history.specs.Accesses.{is_put, is_got, is_from, put_at, got_at, 
 use Rattle.teb_history.specs.OwnEvents.{is_of, own_events, put_in, got_in, gets_from}
 use Rattle.teb_history.proofs.Any.{came_any}
 
--- each of t's own events is t's
+-- a test of t's events gives the same on t's own events as on the history
 own_events_are : (t : ℕ) (f g : Event → Bool) → ((e : Event) → g e ≡ (is_of t e && f e)) → (H : List Event) → list_any f (own_events H t) ≡ list_any g H
 unfolding own_events
 own_events_are t f g same [] = refl
@@ -82,7 +82,7 @@ read_from_own H t u = go (eqb t u) refl
     go true q = none H q
     go false q = sym (own_events_are t (gets_from u) (is_from t u) (from q) H)
 
--- the first that f finds in events with the newest first
+-- the first result of f, in events with the newest first
 abbrev pub newest_in : {A : Type 0} → (Event → Option A) → List Event → Option A
 newest_in f [] = None
 newest_in f (e ∷ P) = let r = newest_in f P in option_or (f e) r

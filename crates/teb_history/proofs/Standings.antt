@@ -1,4 +1,4 @@
--- Where a transaction stands after one more event.
+-- The standing of a transaction after one more event.
 use Rattle.std.proofs.Common.{◌≡◌, ℕ, suc, Bool, true, false, cond, not, ◌&&◌, ◌||◌, eqb, List, [], ◌∷◌, length, Some, None, is_some, refl, sym, ◌∙◌, ap}
 use Rattle.std.specs.List.{list_any}
 use Rattle.std.specs.Option.{option_map, option_map_or}
@@ -16,7 +16,7 @@ use Rattle.teb_history.specs.Standings.{start_of, standing_of, blank, standing_a
 use Rattle.teb_history.proofs.Any.{came_any}
 use Rattle.teb_history.proofs.Newest.{begun-cons, committed-cons, ready-cons, told-cons}
 
--- what each part says of the newest event
+-- each part of the standing after the newest event
 parts : (e : Event) (P : List Event) (t : ℕ) → standing_of (e ∷ P) t ≡ record {
   txn = record { 0 = t };
   start = cond (is_began t e || begun P t) (Some (record { session = record { 0 = session_of (e ∷ P) t }; spot = spot_of (e ∷ P) t })) None;
@@ -36,7 +36,7 @@ parts e P t = λ j. record {
   end = own_end (e ∷ P) t;
 }
 
--- one more event changes where its own transaction stands
+-- one more event changes the standing of its own transaction
 pub standing_of-own : (e : Event) (P : List Event) (t : ℕ) → is_of t e ≡ true → standing_of (e ∷ P) t ≡ standing_after e (suc (length P)) (standing_of P t)
 unfolding session_of spot_of cause_of own_end
 standing_of-own (Began u s k i) P t h = parts (Began u s k i) P t ∙ rw h refl
@@ -47,7 +47,7 @@ standing_of-own (Done u) P t h = parts (Done u) P t ∙ rw h refl
 standing_of-own (Gone u c) P t h = parts (Gone u c) P t ∙ rw h refl
 standing_of-own (Told u) P t h = parts (Told u) P t ∙ rw h refl
 
--- and nobody else
+-- it changes no other transaction's standing
 pub standing_of-other : (e : Event) (P : List Event) (t : ℕ) → is_of t e ≡ false → standing_of (e ∷ P) t ≡ standing_of P t
 unfolding session_of spot_of cause_of own_end
 standing_of-other (Began u s k i) P t h = parts (Began u s k i) P t ∙ rw h refl
@@ -62,7 +62,7 @@ pub standing_of-nothing : (t : Txn) → standing_of [] t.0 ≡ blank t
 unfolding begun began_at committed done_at ready_at told_at cause_of own_end first_event first
 standing_of-nothing t = refl
 
--- what a standing tells
+-- a transaction that has not begun has session 0
 unbegun-session : (H : List Event) (t : ℕ) → begun H t ≡ false → session_of H t ≡ 0
 unfolding session_of
 unbegun-session [] t h = refl
@@ -126,7 +126,7 @@ pub phase_standing : (H : List Event) (t : ℕ) → standing_phase (standing_of 
 phase_standing H t = λ j. cond (committed H t) phase.Committed
     (cond (is_aborted_standing H t j) phase.Aborted (cond (not (has_begun_standing H t j)) phase.NotBegun (cond (came H (ready_at H t)) phase.Ready phase.Running)))
 
--- the start, part by part
+-- the parts of the start
 pub start_spot : (H : List Event) (t : ℕ) → option_map (λ s. s.spot) (standing_of H t).start ≡ begun_spot H t
 start_spot H t = go (begun H t)
   where

@@ -1,4 +1,4 @@
--- A transaction that is live as before changes nothing in the list of those that are live.
+-- If a transaction's liveness does not change, the list of live transactions stays the same.
 use Rattle.std.proofs.Common.{◌≡◌, ℕ, ◌<◌, ◌≤◌, Bool, true, false, cond, not, ◌||◌, ltb, eqb, Some, List, [], ◌∷◌, filter, ◌⊎◌, inl, inr, ◌≢◌, refl, sym, ◌∙◌, ap, arith}
 use Rattle.std.proofs.lemmas.Bool.Decides.{eqb_tells}
 use Rattle.teb_names.specs.declared.Txn.{Txn}
@@ -12,7 +12,7 @@ use Rattle.teb_history.proofs.Comparisons.{ltb_tells}
 use Rattle.teb_history.proofs.Mentioned.{has, live-ascending}
 use Rattle.teb_history.proofs.FirstLive.{same_txn, has-above, live_listed, listed_live}
 
--- one that is there is put in for itself
+-- putting a transaction that is in the list changes nothing
 put-there : (t : Txn) (ts : List Txn) → IsAscendingBy number_of ts → has t.0 ts ≡ true → ts ≡ put_by number_of t ts
 unfolding has
 put-there t [] a h = absurd (cc)
@@ -29,7 +29,7 @@ put-there t (x ∷ xs) a h = go (ltb_tells x.0 t.0) (eqb_tells x.0 t.0) (put-the
     go (inr l) (inl e) ih = rw (l.0, e.0) (ap (λ (y : Txn). y ∷ xs) (same_txn x t e.1))
     go (inr l) (inr e) ih = absurd (let above = has-above x.0 xs a.0 t.0 (among e.0) in omega (arith, l.1))
 
--- one that is not there is taken out for nothing
+-- removing a transaction that is not in the list changes nothing
 filter-absent : (t : ℕ) (ts : List Txn) → has t ts ≡ false → ts ≡ filter (λ u. not (eqb u.0 t)) ts
 unfolding has
 filter-absent t [] h = refl
@@ -51,7 +51,7 @@ live-kept H t = go (is_live H t.0) refl
     go true q = put-there t (live_txns H) (live-ascending H) (live_listed H t q)
     go false q = filter-absent t.0 (live_txns H) (absent (has t.0 (live_txns H)) refl q)
 
--- an event that cannot change it leaves the list as it was
+-- an event that cannot change the transaction's liveness leaves the list as it was
 pub turned-kept : (e : Event) (n : ℕ) (r : Standing) (t : Txn) (ts : List Txn) → ts ≡ kept_by (Some (stands_live r)) t ts
     → kept_by (turned e n r) t ts ≡ kept_by (Some (stands_live (standing_after e n r))) t ts
 turned-kept (Began u s k i) n r t ts h = refl

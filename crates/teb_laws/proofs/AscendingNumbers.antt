@@ -1,4 +1,4 @@
--- Lists of numbers that ascend, and that the transactions of a history do.
+-- Ascending lists of numbers; the transactions of a history form one.
 use Rattle.std.proofs.Common.{ℕ, zero, suc, ◌<◌, List, [], ◌∷◌, ◌++◌, refl, subst, inl, inr, arith}
 use Rattle.teb_history.specs.declared.Event.{Event}
 use Rattle.teb_history.specs.Phases.{begun_count, numbers, txns}
@@ -6,7 +6,7 @@ use Rattle.teb_history.specs.Ascending.{AllAbove, IsAscendingBy}
 use Rattle.teb_rules.specs.Serializes.{In}
 use Rattle.teb_laws.proofs.Serial.{numbers-In}
 
--- a list of numbers, as one that ascends
+-- the key by which a list of numbers ascends: the number itself
 abbrev pub number : ℕ → ℕ
 number n = n
 

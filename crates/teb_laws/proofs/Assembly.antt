@@ -32,7 +32,7 @@ use Rattle.teb_laws.proofs.ReadRule.{GotAt, from_own, from_seen, from_row, got_c
 use Rattle.teb_laws.proofs.VersionOrder.{Writes, precedes_at, precedes_row, precedes_total, precedes_irreflexive}
 use Rattle.teb_rules.specs.Versions.{value_left}
 
--- what is asked of the control of node n: conflicts of two sides are ordered by rank, and a version that was read is final
+-- what the control of node n must guarantee: conflicts of two sides are ordered by rank, and a version that was read is final
 pub record NodeLaw (S : Setup) (H : List Event) (n : ℕ) : Type 0 where
   pub write_write : (u w : ℕ) (x : Cell) → Commits H u → Commits H w → meets S H n u w ≡ true → put_at H u x < length H → put_at H w x < length H → orders S H n x u w ≡ true
       → rank S H n u < rank S H n w
@@ -51,7 +51,7 @@ wrote_here H i u x h w = ltb-true _ _ (sym (wrote-upto H i u x h) ∙ w)
 pub stands_here : (H : List Event) (i u : ℕ) → i ≤ length H → aborted (upto i H) u ≡ false → i ≤ gone_at H u
 stands_here H i u h w = ltb-false _ _ (sym (aborted-upto H i u h) ∙ w)
 
--- an event that the history has, at a place
+-- an event at a position that passes q is one that the history has
 any_at : (q : Event → Bool) (H : List Event) (i : ℕ) (e : Event) → i < length H → upto (suc i) H ≡ e ∷ upto i H → q e ≡ true → list_any q H ≡ true
 any_at q [] i e h is p = absurd (omega arith)
 any_at q (f ∷ P) i e h is p = elim (cases_lt i (length P)) [
@@ -93,7 +93,7 @@ seen_at S H i t x w l h e =
       top = λ b y s. r.1 b (In-filter (sees S (upto i H) x t) b (txns (upto i H)) (In-txns S (upto i H) b (Lawful-upto S H i l) (begun_there H i b h y)) s);
     }
 
--- whoever a committed t read from is committed before it
+-- a transaction that a committed t read from is committed before t
 pub read_done : (S : Setup) (a : TreeFacts S) (H : List Event) (i : ℕ) (t : Txn) (x : Cell) (w : Txn) (v : Option ℤ) → Lawful S H → GotAt H i t x w v → Commits H t.0 → SeenAt S H i t.0 x w.0
     → done_at H w.0 < done_at H t.0
 read_done S a H i t x w v l g c s =
@@ -117,7 +117,7 @@ read_done S a H i t x w v l g c s =
         (rw (upto-upto (suc i) j H d, upto-upto i j H (let z : i ≤ j = omega arith in z)) g.is)
         (and_from _ _ (and_from _ _ (eq-eqb t.0 t.0 refl) (eq-eqb w.0 w.0 refl)) (not_from_false _ (ne_eqb t.0 w.0 (λ e. ne (sym e)))))
 
--- two committed writers stand in the serial order as their versions do
+-- two committed writers are in the serial order as their versions are
 lt_writes : (S : Setup) (a : TreeFacts S) (H : List Event) (u w : ℕ) (x : Cell) → Lawful S H → ((n : ℕ) → NodeLaw S H n) → Commits H u → Commits H w → u ≢ w → put_at H u x < length H
     → put_at H w x < length H →
     precedes S H x u w ≡ true → serially S H u w ≡ true
@@ -139,7 +139,7 @@ lt_after_read S a H i t x w v b l law g ne ct cb nb pb e =
 commits_writes : (S : Setup) (H : List Event) (x : Cell) (u : ℕ) → Lawful S H → Commits H u → put_at H u x < length H → Writes H x u
 commits_writes S H x u l c p = record { put = p; stands = (commits S H u l c).1 }
 
--- each Got of a committed transaction is what the serial order gives
+-- each Got of a committed transaction has the value that the serial order gives
 got_well : (S : Setup) (a : TreeFacts S) (R : List (Cell × ℤ)) (H : List Event) (i : ℕ) (t : Txn) (x : Cell) (w : Txn) (v : Option ℤ) → (w.0 ≡ 0 → v ≡ row_of R x) → Lawful S H
     → ((n : ℕ) → NodeLaw S H n) → ((j : ℕ) → IsOrdered S (upto j H)) → GotAt H i t x w v → Commits H t.0 →
     ReadWell (Commits H) (serially S H) (λ b. last_put H b x) t.0 (row_of R x) (last_put (upto i H) t.0 x) v
@@ -230,7 +230,7 @@ all_well S a R H t l law ord c (Done u ∷ P) rr h q = all_well S a R H t l law 
 all_well S a R H t l law ord c (Gone u b ∷ P) rr h q = all_well S a R H t l law ord c P rr (omega arith) (suffix_next H (Gone u b) P q)
 all_well S a R H t l law ord c (Told u ∷ P) rr h q = all_well S a R H t l law ord c P rr (omega arith) (suffix_next H (Told u) P q)
 
--- the final table
+-- running the serial order leaves the final table
 pub final_right : (X : Store) (a : TreeFacts X.setup) (H : List Event) → Lawful X.setup H → ((n : ℕ) → NodeLaw X.setup H n) → IsOrdered X.setup H → (x : Cell)
     → table_after H (serial_order X.setup H) (row_of X.rows) x ≡ final_table X H x
 unfolding final_table
@@ -270,7 +270,7 @@ final_right X a H l law ord x = go (latest X.setup H x ws) refl
       | inl k ↦ absurd (latest-none X.setup H x ws b (λ z i. precedes_irreflexive X.setup H x z) (λ u v w i j k. ord x u v w (member u i).0 (member v j).0 (member w k).0) e (inside b cb k))
     ])
 
--- who read from whom, at a place
+-- an event by which t reads from w is a Got of t from w
 from_is : (t w : ℕ) (e : Event) → is_from t w e ≡ true → (x : Cell) × (v : Option ℤ) × (e ≡ Got (record { 0 = t }) x (record { 0 = w }) v) × (t ≢ w)
 from_is t w (Got s y u v) h =
     let p = and_parts _ _ h in
@@ -296,7 +296,7 @@ read_recoverable S a H t w l c z (e ∷ P) h q i = elim (or_cases (is_from t w e
           | from_seen p o ↦ read_done S a H k (record { 0 = t }) x (record { 0 = w }) v l g c (seen_at S H k t x w l (let y : k ≤ length H = omega arith in y) o)
         ]
 
--- From the laws of the nodes and the order of versions
+-- if every node keeps its law and versions are ordered, the serial order serializes the history
 pub serializes : (X : Store) (a : TreeFacts X.setup) (H : List Event) → Lawful X.setup H → ReadsRows X.rows H → ((n : ℕ) → NodeLaw X.setup H n) → ((j : ℕ) → IsOrdered X.setup (upto j H))
     → Serializes X H (serial_order X.setup H)
 serializes X a H l rr law ord =

@@ -1,4 +1,4 @@
--- The order of commits, which is the serial order where the root ranks by it.
+-- The order of commits, which is the serial order if the root ranks by it.
 use Rattle.std.proofs.Common.{◌≡◌, ◌⊎◌, ℕ, suc, ◌<◌, ◌≤◌, Bool, true, false, List, [], ◌∷◌, ◌++◌, refl, sym, subst, subst₂, inl, inr, arith, length, eqb, ltb, lt-ltb, eqb-true, eq-eqb, flat_map}
 use Rattle.std.proofs.lemmas.Bool.{both_ways, or_left}
 use Rattle.teb_history.specs.declared.Event.{Event}
@@ -30,7 +30,7 @@ done_kept : (e : Event) (P : List Event) (t : ℕ) → done_at P t < length P �
 unfolding done_at first_event
 done_kept e P t h = elim (first_cases (newest (is_done t)) e P) [ before a b ↦ b | now a b c ↦ absurd (omega arith) | later a b c ↦ absurd (omega arith) ]
 
--- an event that is no Done of t leaves it open whether t is committed
+-- if t is committed after an event that is not its Done, it was committed before it
 still_open : (e : Event) (P : List Event) (t : ℕ) → is_done t e ≡ false → done_at (e ∷ P) t < suc (length P) → done_at P t < length P
 unfolding done_at first_event
 still_open e P t f h = elim (first_cases (newest (is_done t)) e P) [ before a b ↦ a | now a b c ↦ absurd (both_ways _ f b) | later a b c ↦ absurd (omega arith) ]
@@ -69,7 +69,7 @@ In-committed (Ready u ∷ P) t h = In-committed P t (still_open (Ready u) P t re
 In-committed (Gone u c ∷ P) t h = In-committed P t (still_open (Gone u c) P t refl h)
 In-committed (Told u ∷ P) t h = In-committed P t (still_open (Told u) P t refl h)
 
--- whose Done stands earlier
+-- the Done of t is before that of u
 abbrev DoneFirst : List Event → ℕ → ℕ → Type 0
 DoneFirst H t u = done_at H t < done_at H u
 
@@ -83,7 +83,7 @@ not_before S P t m h =
     let u = unfinished-upto P (length P) t (let z : length P ≤ length P = omega arith in z) (subst (λ (z : List Event). unfinished z t ≡ true) (sym all) m.unfinished) in
     let unended : length P ≤ done_at P t = u.1 in omega arith
 
--- who commits now comes after all that have committed
+-- a transaction that commits now is after all that have committed
 done_last : (S : Setup) (P : List Event) (u : Txn) (t : ℕ) → MayCommit S P u.0 → done_at P t < length P → done_at (Done u ∷ P) t < done_at (Done u ∷ P) u.0
 unfolding done_at first_event
 done_last S P u t m h =
@@ -116,7 +116,7 @@ head_less f g h k [] ys p q r = absurd p
 head_less f g h k (x ∷ xs) [] p q r = absurd q
 head_less f g h k (x ∷ xs) (y ∷ ys) p q r = or_left (ltb (f x) (h y)) _ (lt-ltb _ _ (subst₂ (λ (m n : ℕ). f m < h n) (sym p) (sym q) r))
 
--- a smaller rank at the root comes first in the serial order
+-- a transaction of smaller rank at the root is earlier in the serial order
 pub serial_from_root : (S : Setup) (a : TreeFacts S) (H : List Event) (t u : ℕ) → Lawful S H → Commits H t → Commits H u → rank S H 0 t < rank S H 0 u → serially S H t u ≡ true
 unfolding serially key
 serial_from_root S a H t u l dt du r =

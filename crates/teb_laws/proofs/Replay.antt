@@ -1,4 +1,4 @@
--- What is left in a table by transactions that run one after the other.
+-- What transactions that run serially leave in a table.
 use Rattle.std.proofs.Common.{◌≡◌, ◌≢◌, ◌⊎◌, ℕ, Bool, true, false, cond, ◌&&◌, eqb, List, [], ◌∷◌, ◌++◌, Option, Some, None, refl, sym, append_assoc, ◌∙◌, ap, subst, inl, inr, ℤ}
 use Rattle.teb_names.specs.declared.Cell.{Cell}
 use Rattle.teb_history.specs.declared.Event.{Event}
@@ -10,7 +10,7 @@ use Rattle.teb_rules.specs.Serializes.{In}
 use Rattle.teb_laws.proofs.Lists.{IsStrict, Each, Sorted, In-append_left, In-append_right, In-append_cases, Pairs-front, Pairs-back, Pairs-across}
 use Rattle.teb_rules.specs.Tree.{row}
 
--- the value of a writer, else what was there
+-- the value of a writer, or else what was there
 abbrev pub or_value : Option (Option ℤ) → Option ℤ → Option ℤ
 or_value (Some v) o = v
 or_value None o = o
@@ -48,13 +48,13 @@ unfolding table_after left_by
 table_after_at H [] T x = refl
 table_after_at H (t ∷ ts) T x = table_after_at H ts (after_puts H t T) x ∙ ap (left_by (λ t. last_put H t x) ts) (after_puts_at H t T x)
 
--- where nobody of the list has a value, d stays
+-- if no transaction of the list has a value, d stays
 pub left_by_none : (g : ℕ → Option (Option ℤ)) (ts : List ℕ) (d : Option ℤ) → Each (λ t. g t ≡ None) ts → left_by g ts d ≡ d
 unfolding left_by
 left_by_none g [] d h = refl
 left_by_none g (t ∷ ts) d h = left_by_none g ts (or_value (g t) d) (λ u i. h u (inr i)) ∙ ap (λ (o : Option (Option ℤ)). or_value o d) (h t (inl refl))
 
--- where each other writer of the list is before w, w's value is left
+-- if each other writer of the list is before w, w's value is left
 pub left_by_last : (lt : ℕ → ℕ → Bool) (P : ℕ → Type 0) → IsStrict lt P → (g : ℕ → Option (Option ℤ)) (ts : List ℕ) (d : Option ℤ) (w : ℕ) (v : Option ℤ) →
     Each P ts → Sorted lt ts → In w ts → g w ≡ Some v → Each (λ t. (g t ≡ None) ⊎ ((t ≡ w) ⊎ (lt t w ≡ true))) ts → left_by g ts d ≡ v
 unfolding left_by
@@ -76,7 +76,7 @@ unfolding left_by
 left_by_push g [] t d = refl
 left_by_push g (u ∷ ts) t d = left_by_push g ts t (or_value (g u) d)
 
--- What a Got of t on x with the value v needs, where P is the history before it: it is t's own last value; or nobody put x before t;
+-- What a Got of t on x with the value v needs, where P is the history before it: v is t's own last value; or no transaction before t put x;
 -- or it is the final value of a w before t, and every other writer is before w or after t.
 pub record FromRow (C : ℕ → Type 0) (lt : ℕ → ℕ → Bool) (g : ℕ → Option (Option ℤ)) (t : ℕ) (row v : Option ℤ) : Type 0 where
   pub value : v ≡ row
@@ -94,13 +94,13 @@ pub record FromWriter (C : ℕ → Type 0) (lt : ℕ → ℕ → Bool) (g : ℕ 
 abbrev pub ReadWell : (ℕ → Type 0) → (ℕ → ℕ → Bool) → (ℕ → Option (Option ℤ)) → ℕ → Option ℤ → Option (Option ℤ) → Option ℤ → Type 0
 ReadWell C lt g t row own v = (own ≡ Some v) ⊎ ((own ≡ None) × (FromRow C lt g t row v ⊎ FromWriter C lt g t v))
 
--- each Got of t in P, a part of the history H
+-- each Got of t in P, a part of the history H, has what it needs
 abbrev pub AllReadWell : (ℕ → Type 0) → (ℕ → ℕ → Bool) → List Event → Values → ℕ → List Event → Type 0
 AllReadWell C lt H T t [] = Unit {0}
 AllReadWell C lt H T t (Got u x w v ∷ P) = (eqb u.0 t ≡ true → ReadWell C lt (λ b. last_put H b x) t (T x) (last_put P t x) v) × AllReadWell C lt H T t P
 AllReadWell C lt H T t (_ ∷ P) = AllReadWell C lt H T t P
 
--- after those that stand before t, x has the value that t read
+-- after the transactions before t, x has the value that t read
 read_right : (C : ℕ → Type 0) (lt : ℕ → ℕ → Bool) → IsStrict lt C → (g : ℕ → Option (Option ℤ)) (ts us : List ℕ) (t : ℕ) (row : Option ℤ) (own : Option (Option ℤ)) (v : Option ℤ) →
     Each C (ts ++ t ∷ us) → ((b : ℕ) → C b → In b (ts ++ t ∷ us)) → Sorted lt (ts ++ t ∷ us) → ReadWell C lt g t row own v → v ≡ or_value own (left_by g ts row)
 read_right C lt s g ts us t row own v ps all h r = elim r [
@@ -173,7 +173,7 @@ pub replays : (C : ℕ → Type 0) (lt : ℕ → ℕ → Bool) → IsStrict lt C
 unfolding left_by
 replays C lt s H T us ps all h r = replays_right C lt s H T T [] us ps all h (λ x. refl) r
 
--- the last version that a list of transactions leaves is that of a w after all other writers, or the row where there is none
+-- the list leaves in x the version of the w that follows all other writers, or the row if there is no writer
 pub left_last : (C : ℕ → Type 0) (lt : ℕ → ℕ → Bool) → IsStrict lt C → (H : List Event) (T : Values) (us : List ℕ) (x : Cell) (w : ℕ) (v : Option ℤ) →
     Each C us → ((b : ℕ) → C b → In b us) → Sorted lt us → C w → last_put H w x ≡ Some v →
     ((b : ℕ) → C b → (last_put H b x ≡ None) ⊎ ((b ≡ w) ⊎ (lt b w ≡ true))) → table_after H us T x ≡ v

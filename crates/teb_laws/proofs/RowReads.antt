@@ -1,4 +1,4 @@
--- Whatever is read from the starting rows is what stands there.
+-- A read from the starting rows gives the value of the starting row.
 use Rattle.std.proofs.Common.{◌≡◌, ℕ, suc, Bool, true, false, cond, not, ◌&&◌, ltb, leb, List, [], ◌∷◌, Option, Some, None, refl, arith, is_none, unwrap_or, ℤ, ◌+ℤ◌}
 use Rattle.teb_history.specs.declared.Event.{Event}
 use Rattle.teb_history.specs.declared.Event.TheVariants.{Got, Ready, Gone, Told}
@@ -30,7 +30,7 @@ use Rattle.teb_names.specs.Rows.{row_of}
 use Rattle.teb_rules.specs.Versions.{source, version}
 use Rattle.teb_rules.specs.Run.{history_after}
 
--- a version of nobody's is the starting row
+-- the version of transaction 0 is the starting row
 of_row : (R : List (Cell × ℤ)) (H : List Event) (x : Cell) (w : ℕ) → w ≡ 0 → version R H x w ≡ row_of R x
 of_row R H x zero e = refl
 of_row R H x (suc w) e = absurd (omega arith)

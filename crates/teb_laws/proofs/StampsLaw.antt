@@ -40,7 +40,7 @@ use Rattle.teb_laws.proofs.Locks.{find_none}
 use Rattle.teb_laws.proofs.LocksLaw.{got_not_put}
 use Rattle.teb_rules.specs.declared.Broken.{Broken}
 
--- a Got of t that the history P has
+-- a Got of t in the history P is what `has_read_before` finds
 has_read_at : (S : Setup) (Q : List Event) (P : List Event) (i : ℕ) (t : Txn) (x : Cell) (w : Txn) (v : Option ℤ) (b : ℕ) → i < length P → upto (suc i) P ≡ Got t x w v ∷ upto i P → (w.0 ≡ b)
     ⊎ (precedes S Q x w.0 b ≡ true) → has_read_before S Q P x b t.0 ≡ true
 unfolding has_read_before
@@ -86,7 +86,7 @@ late_from : (S : Setup) (Q : List Event) (n b t : ℕ) (x : Cell) → meets S Q 
 unfolding is_late
 late_from S Q n b t x p q r s = and_from _ _ (and_from _ _ (and_from _ _ p (not_from_false _ q)) (lt-ltb _ _ r)) s
 
--- a write of b that comes after t's Got, where t starts later and read what b's version follows, is late
+-- a write of b after t's Got is late if t's batch starts after b's and t read from b or from a version before b's
 late_write : (S : Setup) (a : TreeFacts S) (H : List Event) (i j n : ℕ) (t : Txn) (x : Cell) (w : Txn) (v : Option ℤ) (b : ℕ) → Lawful S H → (row S.tree n).control ≡ Timestamp → GotAt H i t x w v
     → i < j → j ≤ length H → MayAccess S (upto j H) b x true →
     meets S H n b t.0 ≡ true → began_at H t.0 < j → began_at H b < j → j ≤ gone_at H t.0 → start S H n b < start S H n t.0 → (w.0 ≡ b) ⊎ (precedes S (upto j H) x w.0 b ≡ true) → ⊥

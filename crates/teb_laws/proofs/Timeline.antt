@@ -1,4 +1,4 @@
--- What a lawful history says of its transactions, by positions of the whole history.
+-- What a lawful history says of its transactions, by their positions in the whole history.
 use Rattle.std.proofs.Common.{◌≡◌, ◌≢◌, ℕ, suc, ◌<◌, ◌≤◌, Bool, true, false, not, ◌&&◌, eqb, ltb, List, [], ◌∷◌, refl, sym, ◌∙◌, ap, subst, subst₂, inl, inr, arith, length, ltb-true, ltb-false, lt-ltb, le-ltb, le_refl, eqb-true}
 use Rattle.std.proofs.lemmas.Bool.{cases_lt, both_ways, false_from_ne_true, and_parts, not-true}
 use Rattle.teb_names.specs.declared.Txn.{Txn}
@@ -42,7 +42,7 @@ event_first q H h =
     let r = has_event H (first_event q H) h in
     record { event = r.event; is = r.is; passes = ap (newest q) (sym r.is) ∙ (unfold first_event in first-holds (newest q) H (unfold first_event in h)) }
 
--- an event that passes stands at or behind the first
+-- an event that passes q is at or after the first
 pub first_event-le : (q : Event → Bool) (H : List Event) (i : ℕ) (e : Event) → i < length H → upto (suc i) H ≡ e ∷ upto i H → q e ≡ true → first_event q H ≤ i
 first_event-le q H i e h is p = elim (cases_lt i (first_event q H)) [
   | inl l ↦ absurd (both_ways (q e) (sym (ap (newest q) is) ∙ first_not (newest q) H i (unfold first_event in l)) p)
@@ -56,7 +56,7 @@ unfinished_parts H t h =
     let q = and_parts (came H (began_at H t)) (not (came H (done_at H t))) p.0 in
     (ltb-true _ _ q.0, ltb-false _ _ (not-true _ q.1), ltb-false _ _ (not-true _ p.1))
 
--- t is unfinished at position i: it has begun before, and finishes at i or later, if ever
+-- if t is unfinished at position i, it began before i, and finishes at i or later, if ever
 pub unfinished-upto : (H : List Event) (i t : ℕ) → i ≤ length H → unfinished (upto i H) t ≡ true → (began_at H t < i) × (i ≤ done_at H t) × (i ≤ gone_at H t)
 unfolding began_at done_at gone_at first_event
 unfinished-upto H i t h u =
@@ -175,7 +175,7 @@ kind-upto S H i t l h b = ap (λ (s : Spot). s.kind.0) (spot-upto S H i t l h b)
 kind_kept : (e : Event) (P : List Event) (t : ℕ) → is_began t e ≡ false → kind_of (e ∷ P) t ≡ kind_of P t
 kind_kept e P t h = ap (λ (s : Spot). s.kind.0) (spot_kept e P t h)
 
--- the type of a transaction that has begun is one of the setup's
+-- the type of a transaction that has begun is one of the setup
 pub kind-lt : (S : Setup) (H : List Event) (t : ℕ) → Lawful S H → began_at H t < length H → kind_of H t < S.types
 unfolding Lawful began_at first_event
 kind-lt S [] t l h = absurd (omega arith)
@@ -197,7 +197,7 @@ pub meets-upto : (S : Setup) (H : List Event) (i n t u : ℕ) → Lawful S H →
 unfolding meets
 meets-upto S H i n t u l h b c = rw (on-upto S H i n t l h b, on-upto S H i n u l h c, side-upto S H i n t l h b, side-upto S H i n u l h c) refl
 
--- what the rules ask of a Put, a Got, a Done, a Ready, a Gone
+-- what the rules require of a Put, a Got, a Done, a Ready and a Gone
 pub put_may : (S : Setup) (P : List Event) (e : Event) (t : ℕ) (x : Cell) → is_put t x e ≡ true → Granted S P e → MayAccess S P t x true
 put_may S P (Put u y v) t x p g = let q = and_parts (eqb u.0 t) (same_cell y x) p in subst₂ (λ (i : ℕ) (z : Cell). MayAccess S P i z true) (eqb-true u.0 t q.0) (same_cell-true y x q.1) g
 put_may S P (Began u s k inst) t x p g = absurd (cc)
@@ -237,7 +237,7 @@ pub gone_granted : (S : Setup) (H : List Event) (t : ℕ) → Lawful S H → gon
 unfolding gone_at
 gone_granted S H t l h = let f = event_first (is_gone t) H h in gone_may S _ f.event t f.passes (granted_at S H (first_event (is_gone t) H) f.event l f.is)
 
--- events of different kinds stand at different places
+-- events of different kinds are at different positions
 abbrev tag : Event → ℕ
 tag (Began u s k inst) = 0
 tag (Got u x w v) = 1

@@ -64,7 +64,7 @@ climb_below S a (suc d) n lower h f m i = go (row S.tree n).parent refl (λ p. c
     go None e ih j = elim j [ inl q ↦ omega arith | inr k ↦ f m k ]
     go (Some p) e ih j = ih p (let z : p < n = a.parents n p e in omega arith) (λ k q. elim q [ inl r ↦ omega arith | inr r ↦ f k r ]) m j
 
--- each node of a path is one of the tree's
+-- each node of a path is in the tree
 pub path-below : (S : Setup) → TreeFacts S → (s : Spot) (m : ℕ) → In m (path S.tree s) → m < length S.tree
 unfolding path way
 path-below S a s m i = climb_below S a (leaf S.tree s) (leaf S.tree s) [] (leaf_below S a s) (λ k j. absurd j) m i
@@ -269,7 +269,7 @@ module _ (X : Store) (a : TreeFacts X.setup) where
   new_within H s Abort h = refuse_within H NoTxn h
   new_within H s End h = refuse_within H NoTxn h
 
-  -- the cause that is kept of an abort
+  -- the recorded cause of an abort
   cause_within : (H : List Event) (t : ℕ) → AllWithin X H → CauseWithin X (unwrap_or (cause_of H t) Asked)
   unfolding cause_of
   cause_within [] t h = tt

@@ -1,4 +1,4 @@
--- Rows that ascend by cell: what a search finds in them, and what one more row makes of them.
+-- Rows that ascend by cell: what a search finds in them, and how one more row changes them.
 use Rattle.std.proofs.Common.{◌≡◌, ℕ, zero, suc, ◌<◌, ◌≤◌, List, [], ◌∷◌, length, get_or, map, Bool, true, false, cond, ◌&&◌, Option, Some, None, ℤ, refl, sym, ap, ◌∙◌, add-one, arith}
 use Rattle.std.specs.Prelude.{insert, IsSome, is_some, Result, Ok, Err, IfOk, IfErr}
 use Rattle.std.specs.List.{list_all, AllByRecursion}
@@ -38,7 +38,7 @@ row_of_tied (r ∷ rs) (suc i) d x up low tie =
     let less : cell_cmp r.0 x ≡ Less = before_tied r.0 s x tie (before_less r.0 s (passes_at (λ (s : Row). is_before r.0 s.0) rs i d parts.0 within)) in
     rw (same_cell-cell_cmp r.0 x, less) (row_of_tied rs i d x parts.1 within tie)
 
--- the cells of the rows below i are before x, and the others behind it
+-- the cells of the rows below i are before x, and the others are after it
 abbrev Parts : List Row → Cell → ℕ → Type 0
 Parts rs x i = IsPartitionPoint (λ (r : Row). cell_cmp r.0 x ≡ Less) (λ (r : Row). cell_cmp r.0 x ≡ Greater) rs i
 
@@ -69,7 +69,7 @@ insert-insert_row (r ∷ rs) x v (suc i) parts low =
     let greater : cell_cmp x r.0 ≡ Greater = cell_cmp_total.antisymm x r.0 ∙ ap ordering_reverse less in
     rw greater (ap (λ (l : List Row). r ∷ l) (insert-insert_row rs x v i (rest r rs x i parts) (omega arith)))
 
--- each cell is before that of the next row
+-- each cell is before the cell of the next row
 next_less : (rs : List Row) (k : ℕ) (d : Row) → IsAscending rs → suc k < length rs → cell_cmp (get_or rs k d).0 (get_or rs (suc k) d).0 ≡ Less
 next_less [] k d up low = absurd (omega arith)
 next_less (r ∷ []) k d up low = absurd (omega arith)
@@ -79,7 +79,7 @@ next_less (r ∷ s ∷ rs) zero d up low =
 next_less (r ∷ s ∷ rs) (suc k) d up low =
     next_less (s ∷ rs) k d (both (list_all (λ (q : Row). is_before r.0 q.0) (s ∷ rs)) (is_ascending (s ∷ rs)) up).1 (omega arith)
 
--- what a binary search asks of the rows
+-- the order that a binary search requires of the rows
 pub searchable : (rs : List Row) (x : Cell) → IsAscending rs → IsNonDecreasingBy (λ (r : Row). ordering_index (cell_cmp r.0 x)) rs
 searchable rs x up = searchable_from_sorted cell_cmp_total (λ (r : Row). r.0) rs x (λ k d low high.
     let less = next_less rs k d up (omega arith) in
@@ -89,7 +89,7 @@ some_there : (rs : List Row) (i : ℕ) (x : Cell) → i < length rs → ((d : Ro
 some_there [] i x low is = absurd (omega arith)
 some_there (r ∷ rs) i x low is = ap is_some (is r)
 
--- what a search tells of the cell that it found
+-- what a search says of a cell that it found
 pub found_there : (rs : List Row) (x : Cell) (r : Result ℕ ℕ) → IsAscending rs → IsSearchInRange r (length rs) → IsBinarySearchResult (λ (s : Row). cell_cmp s.0 x) rs r
     → IfOk r (λ i. (i < length rs) × IsSome (row_of rs x) × ((d : Row) → row_of rs x ≡ Some (get_or rs i d).1))
 found_there rs x (Ok i) up low hit =
@@ -114,18 +114,18 @@ passes_inserted p (r ∷ rs) x v h all =
       | false ↦ joined (p r) (list_all p (insert_row rs x v)) parts.0 (passes_inserted p rs x v h parts.1)
     ]
 
--- what is behind a row is behind a cell before that row
+-- rows that are after y are after each cell before y
 before_all : (rs : List Row) (x y : Cell) → cell_cmp x y ≡ Less → list_all (λ (r : Row). is_before y r.0) rs ≡ true → list_all (λ (r : Row). is_before x r.0) rs ≡ true
 before_all [] x y less all = refl
 before_all (r ∷ rs) x y less all =
     let parts = both (is_before y r.0) (list_all (λ (s : Row). is_before y s.0) rs) all in
     joined (is_before x r.0) (list_all (λ (s : Row). is_before x s.0) rs) (ap is_lt (cell_cmp_total.trans x y r.0 less (before_less y r.0 parts.0))) (before_all rs x y less parts.1)
 
--- a first row of another cell, and what row x then has
+-- if x has no row, the first row is of another cell, and the other rows have none of x
 skipped : (r : Row) (rs : List Row) (x : Cell) → row_of (r ∷ rs) x ≡ None → (same_cell r.0 x ≡ false) × (row_of rs x ≡ None)
 skipped r rs x none = elim (same_cell r.0 x) as (λ b. cond b (Some r.1) (row_of rs x) ≡ None → (b ≡ false) × (row_of rs x ≡ None)) [ true ↦ λ h. absurd (cc) | false ↦ λ h. (refl, h) ] none
 
--- a cell that is neither the same nor behind is before
+-- a cell that is not the same as x and not after it is before it
 less_left : (r x : Cell) → same_cell r x ≡ false → is_before x r ≡ false → cell_cmp r x ≡ Less
 less_left r x other later =
     let apart : is_eq (cell_cmp r x) ≡ false = sym (same_cell-cell_cmp r x) ∙ other in
@@ -157,7 +157,7 @@ row_of_new (r ∷ rs) x v none =
       | false ↦ rw (without.0) (row_of_new rs x v without.1)
     ]
 
--- and no other is changed
+-- and no other row is changed
 pub row_of_other : (rs : List Row) (x : Cell) (v : ℤ) (y : Cell) → same_cell x y ≡ false → row_of (insert_row rs x v) y ≡ row_of rs y
 row_of_other [] x v y other = rw other
 row_of_other (r ∷ rs) x v y other =
@@ -170,7 +170,7 @@ less_passes : (x : Cell) (rs : List Row) → AllByRecursion (λ y. cell_cmp x y 
 less_passes x [] all = refl
 less_passes x (r ∷ rs) all = joined (is_before x r.0) (list_all (λ (s : Row). is_before x s.0) rs) (ap is_lt all.0) (less_passes x rs all.1)
 
--- rows whose cells are sorted as std says it, as those of an ordered map are
+-- rows whose cells are sorted in the sense of std ascend, such as those of an ordered map
 pub ascending_from_sorted : (rs : List Row) → IsStrictlySortedBy cell_cmp (map (λ (r : Row). r.0) rs) → IsAscending rs
 unfolding IsStrictlySortedBy
 ascending_from_sorted [] sorted = refl

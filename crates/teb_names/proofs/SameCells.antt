@@ -1,4 +1,4 @@
--- Whether two cells are the same is an equivalence, and same cells are one.
+-- Sameness of cells is an equivalence, and same cells are equal.
 use Rattle.std.proofs.Common.{◌≡◌, Bool, true, false, eqb, refl, sym, ◌∙◌, ap}
 use Rattle.std.specs.Cmp.{IsEquivalence}
 use Rattle.std.specs.Ordering.{is_eq}

@@ -30,7 +30,7 @@ pub texts_push : (ks : List (String Global)) (k : String Global) → texts (ks +
 texts_push [] k = refl
 texts_push (x ∷ ks) k = ap (λ l. string_bytes x ∷ l) (texts_push ks k)
 
--- what an insert of a key that isn't there makes of the names
+-- how inserting a key that is not there changes the names
 pub inserted : (bs : List ℕ) (ks new : List (String Global)) (key : String Global) → string_bytes key ≡ bs → list_any (λ k. bytes_eq bs (string_bytes k)) ks ≡ false
     → new ≡ insert_key string_eq ks key → (has (texts ks) bs ≡ false) × (texts new ≡ texts ks ++ bs ∷ [])
 inserted bs ks new key is absent put =
@@ -55,7 +55,7 @@ place_itself (x ∷ names) (suc i) name apart is =
     rw other (let next : 1 + position_or_len (bytes_eq name) names ≡ suc (position_or_len (bytes_eq name) names) = omega arith in
     next ∙ ap suc (place_itself names i name (IsDistinct-tail bytes_eq x names apart) is))
 
--- a name among distinct ones is found where it stands
+-- a name among distinct ones is found at its own index
 pub number_of_itself : (names : List (List ℕ)) (i : ℕ) (name : List ℕ) → IsDistinct bytes_eq names → slice_get names i ≡ Some name → number_of names name ≡ Some i
 number_of_itself names i name apart is =
     let place = place_itself names i name apart is in

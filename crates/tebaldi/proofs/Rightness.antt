@@ -1,4 +1,4 @@
--- How a command ends, from what was read and what was written.
+-- How a command ends, given what was read and what was written.
 use Rattle.std.proofs.Common.{◌≡◌, ◌≢◌, ℕ, List, [], Option, Some, None, Result, Ok, Err, IfOk, MatchResult, length, inl, refl, sym, ◌∙◌, ap, subst}
 use Rattle.std.proofs.lemmas.List.{append-nil}
 use Rattle.std.specs.Io.KnownBytes.{Keeps, Appends}
@@ -32,12 +32,12 @@ use Rattle.command_words.specs.declared.command.Command.{Command}
 use Rattle.command_words.specs.declared.command.Command.TheVariants.{Threads, Pool}
 use Rattle.tebaldi.specs.declared.ended.Ended.{Ended}
 
--- what is serialized over one kind of setups is so over another that has them all
+-- a history that is serialized over some setup of one kind is so over a setup of any wider kind
 serialized_over : (P Q : SetupView → Type 0) → ((m : SetupView) → P m → Q m) → (h : Option (List Event)) → IsSerialized P h → IsSerialized Q h
 serialized_over P Q f None s = tt
 serialized_over P Q f (Some h) s = (s.0, f s.0 s.1, s.2)
 
--- over the setup of a task that some bytes are
+-- the same for the setup of a task that was read from bytes
 serialized_by : (bytes : List ℕ) (task : Task) (Q : SetupView → Type 0) → ((m : SetupView) → IsSetUp bytes m → Q m) → input_of bytes ≡ Ok task → (kept h : Option (List Event)) → kept ≡ h
     → IsSerialized (λ (m : SetupView). task.setup ≡ m) h → IsSerialized Q kept
 serialized_by bytes task Q f read kept h same s =
@@ -49,7 +49,7 @@ nothing_added None now k = tt
 nothing_added (Some xs) None k = k
 nothing_added (Some xs) (Some ys) k = k ∙ sym (append-nil xs)
 
--- a refusal is what the words come to, where the input is refused
+-- a command with refused input ends in that refusal
 pub refusal_ends : (e : Ended) (command : Option Command) (R : Task → Shown → Type 0) → ((bytes : List ℕ) (d : Shown) → ShowsInput R bytes d → Ends command bytes e d)
     → (bytes : List ℕ) (why : InputError) → input_of bytes ≡ Err why → Ends command bytes e (refusal why)
 refusal_ends e command R ends bytes why is = ends bytes (refusal why) (rw is refl)
@@ -60,7 +60,7 @@ threads_refused workers e alone bytes why is = rw is (refl, alone)
 pub pool_refused : (workers : ℕ) (e : Ended) → IsAlone e → (bytes : List ℕ) (why : InputError) → input_of bytes ≡ Err why → Ends (Some (Pool workers)) bytes e (refusal why)
 pool_refused workers e alone bytes why is = rw is (refl, alone)
 
--- a text that is audited is one that `audit` answers yes to
+-- a text that passes the audit is one that `audit` accepts
 audited_yes : (text : List ℕ) → IsAudited text → IsAuditedYes text
 audited_yes text is few = rw (le-ltb MOST_BYTES (length text) few) (sym (ap verdict is))
 
@@ -87,7 +87,7 @@ module _ (left rest : Option (List ℕ)) (e : Ended) (before now : Option (List 
     refused_of (BadTree why) read written none fault memory nf nm = refused (BadTree why) read.0 read.1 read.2 written none
     refused_of (BadLine n why) read written none fault memory nf nm = refused (BadLine n why) read.0 read.1 read.2 written none
 
-  -- a command that shows what R says of an input
+  -- a command whose output relates to its input by R
   module _ (command : Option Command) (R : Task → Shown → Type 0) (ends : (bytes : List ℕ) (d : Shown) → ShowsInput R bytes d → Ends command bytes e d)
       (sets_up : (bytes : List ℕ) (m : SetupView) → IsSetUp bytes m → SetsUp command bytes m) where
     pub right_of : (task : Task) → IsReadFrom left rest (Ok task) → (r : Result Shown AllocError) → IfOk r (R task) → IfOk r (λ o. IsSerialized (λ m. task.setup ≡ m) o.history)
@@ -102,7 +102,7 @@ module _ (left rest : Option (List ℕ)) (e : Ended) (before now : Option (List 
     }
     right_of task read (Err w) ran serialized written ne = absurd (ne written)
 
-  -- a command whose bytes are no input, and that keeps no history
+  -- a command that takes its bytes as they are and keeps no history
   module _ (command : Option Command) (R : List ℕ → Shown → Type 0) (ends : (bytes : List ℕ) (d : Shown) → ShowsBytes (λ text. R text d) bytes d → Ends command bytes e d) where
     shown_bytes : (d : Shown) (bytes : List ℕ) → AreOf left rest bytes → ShowsBytes (λ text. R text d) bytes d → d.history ≡ None → IsWritten d e.status e.history before now
         → IsRight command left rest e before now
@@ -127,7 +127,7 @@ module _ (left rest : Option (List ℕ)) (e : Ended) (before now : Option (List 
     bytes_refused read.TooLong are x is written fault memory nf nm = shown_bytes (refusal TooLong) are.0 are.1 (rw (lt-ltb MOST_BYTES (length are.0) are.2) refl) refl
         (subst (λ (y : InputError). IsWritten (refusal y) e.status e.history before now) is written)
 
-  -- several threads
+  -- a command that serves with several threads
   module _ (command : Option Command) (ends : (bytes : List ℕ) (d : Shown) → ServesInput bytes e d → Ends command bytes e d)
       (sets_up : (bytes : List ℕ) (m : SetupView) → IsSetUp bytes m → SetsUp command bytes m) where
     served_by : (task : Task) → IsReadFrom left rest (Ok task) → (r : Result Served AllocError) → IfOk r (IsServedBy task) → IfOk r (λ s. IsSerialized (λ m. task.setup ≡ m) (history_in s))

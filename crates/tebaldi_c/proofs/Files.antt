@@ -1,4 +1,4 @@
--- What a file keeps, after each step.
+-- What a crash leaves of a file after each step.
 use Rattle.std.proofs.Common.{◌≡◌, ◌-◌, ◌+◌, ◌<◌, ◌≤◌, ℕ, List, [], true, false, nat_eq, length, refl, sym, ◌∙◌, ap, subst, arith, true≢false, Result, Err, rules}
 use Rattle.crash_disk.specs.Disk.{LeavesOnly}
 use Rattle.crash_disk.specs.Log.{LeftSince, MayLeave}
@@ -19,7 +19,7 @@ clock m = length m.log.steps
 abbrev pub images : MemDisk → ℕ → List ℕ → Type 0
 images m t c = LeftSince m.log.steps t c
 
--- no call waits: what a crash leaves now is what it left after the last call
+-- if no call waits, it is enough that whatever a crash may leave now tells the acknowledged commits
 pub none_waits : (e : EngineModel) (f : FileState) → f.waiting ≡ 0 → f.opened ≡ true → f.kept ≡ f.journal.acknowledged
     → ((image : List ℕ) → MayLeave (calls f) image → TellsCommits f.journal.layout e.store e.events f.journal.acknowledged image)
     → (f.journal.stopped ≡ false → f.journal.acknowledged ≡ commit_count e.events) → KeepsFile e f
@@ -33,7 +33,7 @@ none_waits e f none opened kept leaves all = record {
   all = all;
 }
 
--- the calls since a moment wait: a crash leaves what it left from that moment on
+-- if the calls since a moment wait, it is enough that whatever a crash left from that moment on tells the kept commits
 pub moved : (e : EngineModel) (f : FileState) (old : MemDisk) → f.waiting ≡ length (calls f) - length old.log.steps
     → LeavesOnly clock images old f.journal.disk (TellsCommits f.journal.layout e.store e.events f.kept)
     → (f.waiting ≡ 0 → (f.opened ≡ true) × (f.kept ≡ f.journal.acknowledged))
@@ -51,7 +51,7 @@ pub no_commits : commit_count [] ≡ 0
 unfolding commit_count
 no_commits = refl
 
--- a store that was opened just now: its images are those of the store once no call waits
+-- a store that was just opened: once no call waits, its images are those of the store
 pub begins : (e : EngineModel) (f : FileState) → f.waiting ≤ length (calls f) → (f.opened ≡ true → f.waiting ≡ 0) → (f.waiting ≡ 0 → f.opened ≡ true) → f.kept ≡ 0
     → f.journal.acknowledged ≡ 0 → e.events ≡ [] → ((image : List ℕ) → MayLeave (calls f) image → TellsCommits f.journal.layout e.store e.events f.journal.acknowledged image) → KeepsFile e f
 begins e f few opened waits kept none empty leaves = record {
@@ -87,7 +87,7 @@ is_zero n is = search rules
 abbrev err : NextError → Result EngineModel NextError
 err e = Err e
 
--- where the store has not failed, it is the same store
+-- if the store has not failed, it is unchanged, so all its commits are acknowledged
 pub still_all : (was new : Stored EngineModel MemDisk) (why : NextError) → (was.journal.stopped ≡ false → was.journal.acknowledged ≡ commit_count was.engine.events)
     → ((why ≡ DiskFault → ⊥) → new ≡ was) → (err why ≡ err DiskFault → new.journal.stopped ≡ true)
     → new.journal.stopped ≡ false → new.journal.acknowledged ≡ commit_count new.engine.events

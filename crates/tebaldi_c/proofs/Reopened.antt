@@ -1,4 +1,4 @@
--- A store over the bytes of a file has what they tell.
+-- A store that is opened over the bytes of a file has what they tell.
 use Rattle.std.proofs.Common.{◌≡◌, ◌⊎◌, ◌+◌, ◌<◌, ◌≤◌, ℕ, List, false, length, refl, sym, subst}
 use Rattle.teb_names.specs.declared.Cell.{Cell}
 use Rattle.teb_names.specs.Rows.{row_of}
@@ -39,7 +39,7 @@ refused s bytes seen capacity errors.Full same is d oc ot full = subst (λ (x : 
 refused s bytes seen capacity errors.DiskFault same is d oc ot full = tt
 refused s bytes seen capacity errors.OutOfMemory same is d oc ot full = tt
 
--- whatever a crash leaves of the disk tells this
+-- every image that a crash may leave of the disk tells these commits
 abbrev AllTell : ℕ → Setup → Store → List Event → ℕ → MemDisk → Type 0
 AllTell capacity s X H least disk = (image : List ℕ) → MayLeave disk.log.steps image → TellsCommits (layout_of capacity s) X H least image
 

@@ -1,4 +1,4 @@
--- The engine of the next epoch has the setup of its tree text, and why there is none.
+-- The engine of the next epoch has the setup of its tree text, or there is a reason why it cannot follow.
 use Rattle.std.proofs.Common.{◌≡◌, ℕ, List, [], length, ap, sym, ◌∙◌}
 use Rattle.teb_names.specs.declared.naming.NameBook.{NameBook}
 use Rattle.teb_rules.specs.Setup.{Store}
@@ -27,7 +27,7 @@ set_up_next s before e whole nodes names started = record {
   named = started.names;
 }
 
--- the store of the bytes of a file has the setup of its tree text
+-- a store that is opened from the bytes of a file has the setup of its tree text
 pub set_up_reopened : (m : SetupView) (bytes : List ℕ) (f : Filed) → IsWhole m → IsNamed m → HasNames m → IsReopened m bytes f → IsSetUp f.engine.store f.engine.names
 set_up_reopened m bytes f whole nodes names r = record { setup = m; whole = whole; nodes = nodes; has_names = names; rules = r.setup; tables = r.tables; named = r.names }
 
@@ -38,7 +38,7 @@ hindered e m Tables none cause = cause.1
 hindered e m Rows none cause = absurd (cause.2 none)
 hindered e m OutOfMemory none cause = tt
 
--- all that the store of a setup has has a name
+-- everything in the store of a setup has a name
 pub named_by : (X : Store) (names : NameBook) → IsSetUp X names → IsNamedBy X names
 named_by X names s = record {
   nodes = ap (λ (S : _). length S.tree) s.rules ∙ s.nodes ∙ sym (ap (λ (b : NameBook). length b.nodes) s.named);

@@ -1,4 +1,4 @@
--- What an engine's replies and final rows name has a name.
+-- The nodes and tables in an engine's replies, events and final rows have names.
 use Rattle.std.proofs.Common.{◌≡◌, ℕ, zero, suc, ◌<◌, arith, get_or, List, [], ◌∷◌, length, reverse, Some, sym, ap, ◌∙◌, subst, ℤ}
 use Rattle.std.specs.Prelude.{All}
 use Rattle.std.proofs.lemmas.List.{reverse-append}
@@ -28,7 +28,7 @@ use Rattle.engine_core.specs.EngineModel.{EngineModel, IsOfEngine}
 use Rattle.serial_order.specs.Tables.{IsFinalRows}
 use Rattle.serial_order.proofs.Within.{row_within, rows_within}
 
--- as many names as nodes and as tables
+-- every node and every table has a name
 module _ (X : Store) (names : NameBook) (nodes : length X.setup.tree ≡ length names.nodes) (tables : X.tables ≡ length names.tables) where
   node_named : (n : Node) → NodeWithin X n → NodeNamed names n
   node_named n h = subst (λ (k : ℕ). n.0 < k) nodes h
@@ -59,16 +59,16 @@ module _ (X : Store) (names : NameBook) (nodes : length X.setup.tree ≡ length 
 within : (e : EngineModel) → IsOfEngine e → StaysWithin e.store e.events
 within e of = subst (StaysWithin e.store) (sym of.reached.1) (stays_within e.store of.sound of.reached.0)
 
--- the answer to a request, where each node has a name
+-- the nodes and tables of a reply have names
 pub answer_named : (e : EngineModel) (session : Session) (request : Request) (r : Reply) → IsOfEngine e → length e.store.setup.tree ≡ length e.names.nodes → e.store.tables ≡ length e.names.tables
     → r ≡ (answer e.store e.events session request).0 → ReplyNamed e.names r
 answer_named e session request r of nodes tables is = reply_named e.store e.names nodes tables r (subst (ReplyWithin e.store) (sym is) ((within e of).replies session request))
 
--- as many tables as names of tables
+-- there are as many tables as table names
 pub same_tables : (e : EngineModel) (s : Setup) → store_of s ≡ e.store → s.names ≡ e.names → e.store.tables ≡ length e.names.tables
 same_tables e s store names = sym (ap (λ (X : Store). X.tables) store) ∙ ap (λ (n : NameBook). length n.tables) names
 
--- the final rows
+-- the tables of the final rows have names
 pub final_named : (e : EngineModel) (s : Setup) (rows : List (Cell × ℤ)) → store_of s ≡ e.store → s.names ≡ e.names → IsWhole (setup_view s) → IsOfEngine e → IsFinalRows e.store e.events rows
     → RowsNamed e.names rows
 final_named e s rows store names whole of final =
@@ -76,7 +76,7 @@ final_named e s rows store names whole of final =
     subst (λ (X : Store). (x : Cell) (v : ℤ) → row_of X.rows x ≡ Some v → CellWithin X x) store (λ x v. row_within (length s.names.tables) s.rows x v whole.cells) in
     subst (λ (k : ℕ). All (λ (r : Cell × ℤ). r.0.table.0 < k) rows) (same_tables e s store names) (rows_within e.store e.events rows starts (within e of).events final)
 
--- as many types as names of types
+-- there are as many types as type names
 same_types : (e : EngineModel) (s : Setup) → store_of s ≡ e.store → s.names ≡ e.names → IsWhole (setup_view s) → e.store.setup.types ≡ length e.names.types
 same_types e s store names whole = sym (ap (λ (X : Store). X.setup.types) store) ∙ whole.types ∙ ap (λ (n : NameBook). length n.types) names
 
@@ -99,7 +99,7 @@ module _ (X : Store) (names : NameBook) (nodes : length X.setup.tree ≡ length 
   all_named (ev ∷ P) h =
       subst (All (EventNamed names)) (sym (reverse-append (ev ∷ []) P)) (All-append (EventNamed names) (reverse P) (ev ∷ []) (all_named P h.1) (one_named ev (event_named ev h.0)))
 
--- the events of a history, where each node has a name
+-- the nodes, tables and types of a history have names
 pub events_named : (e : EngineModel) (s : Setup) → store_of s ≡ e.store → s.names ≡ e.names → IsWhole (setup_view s) → IsOfEngine e → length e.store.setup.tree ≡ length e.names.nodes
     → All (EventNamed e.names) (reverse e.events)
 events_named e s store names whole of nodes =

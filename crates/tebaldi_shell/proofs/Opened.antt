@@ -1,4 +1,4 @@
--- With what the shell begins.
+-- The state with which the shell begins.
 use Rattle.std.proofs.Common.{◌≡◌, ℕ, ◌≤◌, List, [], Ok, false}
 use Rattle.teb_names.specs.declared.Cell.{Cell}
 use Rattle.teb_names.specs.Rows.{row_of}

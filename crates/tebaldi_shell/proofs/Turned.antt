@@ -1,4 +1,4 @@
--- Why no next epoch begins, and what does not fit.
+-- Why the next epoch does not begin, and which commit does not fit.
 use Rattle.std.proofs.Common.{◌≡◌, ℕ, ◌-◌, Bool, true, false, cond, List, Option, Some, None, refl, sym, ap, ◌∙◌, subst}
 use Rattle.teb_names.specs.declared.Session.{Session}
 use Rattle.teb_names.specs.declared.Request.{Request}
@@ -29,7 +29,7 @@ turn_refused l e tables next.Full w cause is not = subst (IsTurnRefused e.events
 turn_refused l e tables next.DiskFault w cause is not = subst (IsTurnRefused e.events) (sym is) (drained e.events cause.drained)
 turn_refused l e tables next.OutOfMemory w cause is not = subst (IsTurnRefused e.events) (sym is) tt
 
--- what a session asks to commit, and holds
+-- the session holds the unfinished transaction that it asks to commit
 record IsCommitOf (H : List Event) (s : Session) (r : Request) (txn : ℕ) : Type 0 where
   asks : r ≡ request.Commit
   holds : held H s.0 ≡ Some txn
@@ -47,13 +47,13 @@ commit_of H s request.Commit txn e = go (held H s.0) refl e
     go (Some t) h q = of t (unfinished H t) h refl q
 commit_of H s _ txn e = absurd (cc)
 
--- a commit that does not fit
+-- a commit that does not fit in the journal
 pub lacks_room : {D : Type 0} (s : KeptModel D) (session : Session) (r : Request) → IsFull s.engine.events (half_size s.journal.layout.capacity - s.journal.end) session r
     → LacksRoom (stored_of s) session r
 lacks_room s session r full =
     let c = commit_of s.engine.events session r full.txn full.commits in
     record { txn = full.txn; asks = c.asks; holds = c.holds; unfinished = c.running; full = full.full }
 
--- requests lead to the history of an engine
+-- an engine's history is one that requests lead to
 pub reached_by : {D : Type 0} (s : KeptModel D) → IsOfEngine s.engine → IsReached (stored_of s)
 reached_by s of = record { sound = of.sound; asked = of.reached.0; leads = of.reached.1 }

@@ -1,4 +1,4 @@
--- Tasks that are dealt into hands and taken out of them.
+-- Tasks are dealt into hands and taken out again.
 use Rattle.std.proofs.Common.{◌≡◌, ◌≢◌, ℕ, suc, ◌+◌, ◌-◌, ◌<◌, ◌≤◌, if◌then◌else◌, List, [], ◌∷◌, ◌++◌, map, length, set, get_or, get_or-set_other, length-set, All, Vec, eq-eqb, ne_eqb, refl, sym, ◌∙◌, ap, subst, arith}
 use Rattle.std.specs.declared.alloc.Global.{Global}
 use Rattle.std.proofs.lemmas.List.{get_or-set_same}
@@ -34,7 +34,7 @@ module _ {C : Type 0} {g : Ghosts C} (h : Hall C g) (x : Scripted) (w : ℕ) whe
   pub dealt_none : (hands : List (Vec (Task C g) Global)) → length hands ≡ w → All (λ (v : Vec (Task C g) Global). v.items ≡ []) hands → AreDealt h x w [] hands
   dealt_none hands n e = record { count = n; each = λ i d l. tasks_none h x (in_hand hands i d) (e i d (omega arith)) }
 
-  -- one more is dealt
+  -- one more task is dealt
   pub dealt_on : (rest : List ℕ) (s i : ℕ) (t : Task C g) (hands hands2 : List (Vec (Task C g) Global)) (u v : Vec (Task C g) Global) → AreDealt h x w rest hands → i ≡ hand_of x w s → i < w
       → IsTask h x t → number_in t ≡ s → u ≡ get_or hands i u → v.items ≡ u.items ++ t ∷ [] → hands2 ≡ set hands i v → AreDealt h x w (s ∷ rest) hands2
   dealt_on rest s i t hands hands2 u v a e l k n read is to = record {
@@ -57,7 +57,7 @@ module _ {C : Type 0} {g : Ghosts C} (h : Hall C g) (x : Scripted) (w : ℕ) whe
           (ap (λ (y : Vec (Task C g) Global). y.items) (get_or-set_other hands i j v d o))
           (a.each j d m))
 
-  -- the hand of the first that is still out
+  -- the first session that is still dealt is on top of its hand
   on_top : (rest : List ℕ) (s i : ℕ) (hands : List (Vec (Task C g) Global)) (u : Vec (Task C g) Global) → AreDealt h x w (s ∷ rest) hands → i ≡ hand_of x w s → i < w → u ≡ get_or hands i u
       → AreTasks h x (held (hand_of x w) i rest ++ s ∷ []) u.items
   on_top rest s i hands u a e l read = tasks_as (held (hand_of x w) i (s ∷ rest)) (held (hand_of x w) i rest ++ s ∷ []) (in_hand hands i u) u.items (sym (held_here (hand_of x w) i s rest (sym e)))
@@ -67,7 +67,7 @@ module _ {C : Type 0} {g : Ghosts C} (h : Hall C g) (x : Scripted) (w : ℕ) whe
       → 0 < length u.items
   dealt_some rest s i hands u a e l read = tasks_some h x (held (hand_of x w) i rest) s u.items (on_top rest s i hands u a e l read)
 
-  -- the first that is still out is taken from its hand
+  -- the first task that is still dealt is taken from its hand
   pub record TakenOut (others : List ℕ) (s : ℕ) (t : Task C g) (hands : List (Vec (Task C g) Global)) : Type 0 where
     pub dealt : AreDealt h x w others hands
     pub task : IsTask h x t
@@ -97,7 +97,7 @@ module _ {C : Type 0} {g : Ghosts C} (h : Hall C g) (x : Scripted) (w : ℕ) whe
           (ap (λ (y : Vec (Task C g) Global). y.items) (get_or-set_other hands i j v d o))
           (a.each j d m))
 
--- the steps of the deal and of the gathering
+-- the steps that deal the tasks and gather them
 module _ {C : Type 0} {g : Ghosts C} (h : Hall C g) (x : Scripted) (w : ℕ) where
   pub deal_step : (n k i : ℕ) (t : Task C g) (hands hands2 : List (Vec (Task C g) Global)) (u v : Vec (Task C g) Global) → n ≡ suc k → n ≤ SESSIONS
       → AreDealt h x w (count_from (suc n) (SESSIONS - n)) hands → i ≡ hand_of x w (suc k) → i < w → IsTask h x t → number_in t ≡ suc k → u ≡ get_or hands i u → v.items ≡ u.items ++ t ∷ []

@@ -1,4 +1,4 @@
--- A transaction's reads in a multimap: what a Got puts there, and what its own events take out.
+-- A transaction's reads in a multimap: a Got adds one, and the transaction's own events remove them again.
 use Rattle.std.proofs.Common.{◌≡◌, ℤ, suc, Bool, true, false, cond, not, eqb, List, [], ◌∷◌, ◌++◌, length, filter, is_some, Option, Some, None, refl, sym, ◌∙◌, ap, arith}
 use Rattle.teb_names.specs.declared.Txn.{Txn}
 use Rattle.teb_names.specs.declared.Cell.{Cell}
@@ -15,12 +15,12 @@ abbrev pub gets : Cell → Event → Bool
 gets x e = is_some (got_in x e)
 
 module _ (t : Txn) (x : Cell) where
-  -- of one cell as many are left to be taken out as Gots are left
+  -- for cell x: as many reads of t are left as Gots are, and the reads of others are unchanged
   pub record IsForgetting (es : List Event) (all rs : List (Txn × Txn)) : Type 0 where
     pub left : length (filter (is_by t) rs) ≡ length (filter (gets x) es)
     pub others : filter (λ r. not (is_by t r)) rs ≡ filter (λ r. not (is_by t r)) all
 
-  -- a Got takes the last of them
+  -- a Got removes the last of t's reads
   pub forget_got : (es : List Event) (all rs now : List (Txn × Txn)) (s : Txn) (y : Cell) (w : Txn) (v : Option ℤ) → IsForgetting (Got s y w v ∷ es) all rs
       → now ≡ cond (same_cell y x) (without_last (is_by t) rs) rs → IsForgetting es all now
   forget_got es all rs now s y w v was is = record {
@@ -78,11 +78,11 @@ module _ (t : Txn) (x : Cell) where
       go false false q e h = h
   own_reads (e ∷ P) = own_reads P ∙ sym (no_get e (filter (is_of t.0) P) (is_of t.0 e) refl)
 
-  -- where the values of a cell hold what t has read none has been taken out yet
+  -- if the multimap has t's reads of the cell, none has been removed yet
   pub forget_none : (H : List Event) (all : List (Txn × Txn)) → filter (is_by t) all ≡ filter (is_by t) (all_reads H x) → IsForgetting (own_events H t.0) all all
   forget_none H all h = record { left = ap (λ (l : List (Txn × Txn)). length l) h ∙ own_reads H; others = refl }
 
-  -- another event takes none
+  -- any other event removes none
   pub forget_other : (e : Event) (es : List Event) (all rs : List (Txn × Txn)) → ((s : Txn) (y : Cell) (w : Txn) (v : Option ℤ) → e ≡ Got s y w v → ⊥) → IsForgetting (e ∷ es) all rs
       → IsForgetting es all rs
   forget_other e es all rs h was = record { left = was.left ∙ no_get e es true (no_got e h); others = was.others }
@@ -91,6 +91,6 @@ module _ (t : Txn) (x : Cell) where
       no_got (Got s y w v) h = absurd (h s y w v refl)
       no_got e h = refl
 
-  -- at the end all are out
+  -- at the end all of t's reads are removed
   pub forget_all : (all rs : List (Txn × Txn)) → IsForgetting [] all rs → rs ≡ filter (λ r. not (is_by t r)) all
   forget_all all rs was = sym (none_left (is_by t) rs was.left) ∙ was.others

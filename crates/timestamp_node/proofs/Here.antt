@@ -1,4 +1,4 @@
--- Who is here, and has joined a batch.
+-- Which transactions are on the node, and have joined a batch.
 use Rattle.std.proofs.Common.{◌≡◌, ◌⊎◌, ℕ, true, IsTrue}
 use Rattle.teb_names.specs.declared.Txn.{Txn}
 use Rattle.teb_names.specs.declared.Cell.{Cell}

@@ -1,4 +1,4 @@
--- The least-numbered transaction that a write comes too late for is found among the reads.
+-- The least-numbered transaction that a write is too late for is found among the reads.
 use Rattle.std.proofs.Common.{◌≡◌, ℕ, ◌<◌, ◌≤◌, Bool, true, false, cond, not, ◌&&◌, ◌||◌, eqb, ltb, min, List, [], ◌∷◌, ◌++◌, filter, find, Option, Some, None, refl, sym, ◌∙◌, ap, inl, inr, arith, ltb-true, eq-eqb}
 use Rattle.std.specs.List.{list_any}
 use Rattle.std.proofs.lemmas.List.{append-nil, append_assoc}
@@ -53,7 +53,7 @@ module _ {A : Type 0} where
   any_with false q (x ∷ xs) = any_with false q xs
 
 module _ (S : Setup) (H : List Event) (n t : ℕ) (x : Cell) where
-  -- the version read is t's or one before it
+  -- the version that was read is t's or an earlier one
   abbrev old : Txn × Txn → Bool
   old r = eqb r.1.0 t || precedes S H x r.1.0 t
 
@@ -80,7 +80,7 @@ module _ (S : Setup) (H : List Event) (n t : ℕ) (x : Cell) where
       go false ih = ih ∙ skip _ (eqb s.0 u) (old (s, w))
   read_before (_ ∷ P) u = read_before P u
 
-  -- a reader is one whom t's write comes too late for, where one of its reads is
+  -- t's write is too late for u if and only if it is too late for one of u's reads
   pub late_read : (u : ℕ) → read_by (is_after S H n t x) (reads S H n x) u ≡ is_late S H n t x u
   unfolding reads is_late
   late_read u =
@@ -113,7 +113,7 @@ module _ (S : Setup) (H : List Event) (n t : ℕ) (x : Cell) where
   unfolding txns
   late_found = find_alike _ _ late_read (numbers (begun_count H))
 
--- the least reader, as far as a walk back from the newest read has come
+-- the least reader, in a walk back from the newest read
 module _ (p : Txn × Txn → Bool) (count : ℕ) where
   pub least : List (Txn × Txn) → Option Txn
   least rs = txn_of (find (read_by p rs) (numbers count))
@@ -146,7 +146,7 @@ module _ (p : Txn × Txn → Bool) (count : ℕ) where
       ∙ ap (λ (o : Option ℕ). txn_of (lesser (find (read_by p seen) (numbers count)) o)) (sym (alone r h pos le))
       ∙ ap txn_of (sym (find_alike _ _ (λ u. or_swap (eqb r.0.0 u && p r) (read_by p seen u)) (numbers count) ∙ find_either (read_by p seen) (λ u. eqb r.0.0 u && p r) count))
 
-  -- of all reads those up to `rest` are still to be looked at, and `found` is the least reader behind them
+  -- the reads of `rest` are still to be visited, and `found` is the least reader among the later ones
   pub record IsWalked (all rest : List (Txn × Txn)) (found : Option Txn) : Type 0 where
     pub seen : List (Txn × Txn)
     pub split : all ≡ rest ++ seen
@@ -167,7 +167,7 @@ module _ (p : Txn × Txn → Bool) (count : ℕ) where
       pub walk_more : p r ≡ true → 0 < r.0.0 → r.0.0 ≤ count → IsWalked all rest (Some (lesser_txn found r.0))
       walk_more h pos le = record { seen = r ∷ w.seen; split = walk_split; least = ap (λ (o : Option Txn). Some (lesser_txn o r.0)) w.least ∙ least_more r w.seen h pos le }
 
-    -- where none of those that are left passes the walk may stop
+    -- if none of the remaining reads passes, the walk may stop
     pub walk_stop : (rest : List (Txn × Txn)) (found : Option Txn) → IsWalked all rest found → AllOf (λ r. p r ≡ false) rest → found ≡ least all
     walk_stop rest found w h = w.least ∙ sym (least_skip rest w.seen h) ∙ ap least (sym w.split)
 

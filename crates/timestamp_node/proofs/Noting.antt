@@ -43,7 +43,7 @@ module _ {A : Type 0} where
   filter_skip p [] a h = ap (λ (b : Bool). cond b (a ∷ []) []) h
   filter_skip p (x ∷ xs) a h = ap (λ (ys : List A). cond (p x) (x ∷ ys) ys) (filter_skip p xs a h)
 
--- the test of a read
+-- the reader has the node on its path and is not aborted
 abbrev here : Setup → List Event → ℕ → Txn × Txn → Bool
 here S H n r = on S H n r.0.0 && not (aborted H r.0.0)
 
@@ -51,7 +51,7 @@ abbrev others : Txn → Txn × Txn → Bool
 others t r = not (is_by t r)
 
 module _ (S : Setup) (P : List Event) (n : ℕ) where
-  -- an event that is no Got, and aborts nobody
+  -- an event that adds no read and aborts no transaction leaves the reads
   reads_kept : (e : Event) → IsOrderly S P → IsNumbered P → MayCome P e → ((x : Cell) → all_reads (e ∷ P) x ≡ all_reads P x) → ((u : ℕ) → is_gone u e ≡ false) → (x : Cell)
       → reads S P n x ≡ reads S (e ∷ P) n x
   unfolding reads
@@ -104,7 +104,7 @@ module _ (S : Setup) (P : List Event) (n : ℕ) where
         split : (r : Txn × Txn) → here S (Gone t c ∷ P) n r ≡ (others t r && here S P n r)
         split r = gone_here r ∙ go (eqb t.0 r.0.0) (eqb r.0.0 t.0) (eqb_swap t.0 r.0.0) (aborted P r.0.0) (on S P n r.0.0)
 
-    -- whoever is here and not aborted has all its reads there
+    -- if t has the node on its path and is not aborted, all its reads are there
     gone_reads : (x : Cell) → on S P n t.0 ≡ true → aborted P t.0 ≡ false → filter (is_by t) (reads S P n x) ≡ filter (is_by t) (all_reads (Gone t c ∷ P) x)
     unfolding reads all_reads
     gone_reads x o a = sym (filter_both (here S P n) (is_by t) (is_by t) same (all_reads P x))
@@ -127,7 +127,7 @@ module _ (S : Setup) (P : List Event) (n : ℕ) where
             go true e = let f : on S P n r.0.0 ≡ false = ap (on S P n) (sym (eqb-true t.0 r.0.0 e)) ∙ h in rw f refl
             go false e = refl
 
--- what StampsStand says after one more event
+-- StampsStand after one more event
 module _ (S : Setup) (H : List Event) (n : ℕ) (e : Event) (is : H ≡ e ∷ drop 1 H) (may : MayNote S (drop 1 H) n e) where
   pub at_end : (at len : ℕ) → len ≡ length H → at ≡ len - 1 → at ≡ length (drop 1 H)
   at_end at len l q = let z : length H ≡ suc (length (drop 1 H)) = ap (λ (G : List Event). length G) is in omega arith
@@ -159,7 +159,7 @@ module _ (S : Setup) (H : List Event) (n : ℕ) (e : Event) (is : H ≡ e ∷ dr
     same_reads : ((x : Cell) → all_reads (e ∷ drop 1 H) x ≡ all_reads (drop 1 H) x) → ((u : ℕ) → is_gone u e ≡ false) → ReadsOf p S (e ∷ drop 1 H) n
     same_reads a g = λ x. was.reads x ∙ reads_kept S (drop 1 H) n e was.orderly was.batches.numbered come a g x
 
-    -- whoever is unfinished has joined exactly where the node is on his path
+    -- an unfinished transaction has joined if and only if the node is on its path
     on_before : (t : ℕ) → unfinished (drop 1 H) t ≡ true → on S (drop 1 H) n t ≡ has_joined b t
     on_before t u = on_joined b S (drop 1 H) n t was.batches (unfinished_parts (drop 1 H) t u).0
 
@@ -219,7 +219,7 @@ module _ (S : Setup) (H : List Event) (n : ℕ) (e : Event) (is : H ≡ e ∷ dr
     gone t c q b' at end z finished p' shown =
         next b' p' z (finished S (drop 1 H) n e was.batches come (subst (Finishes t.0) (sym q) refl) end) (subst (λ (d : Event). ReadsOf p' S (d ∷ drop 1 H) n) (sym q) shown)
 
-    -- the multimap has what an aborted one has read
+    -- the multimap has the reads of an aborted transaction
     pub gone_read : (t : Txn) (c : Cause) → e ≡ Gone t c → has_joined b t.0 ≡ true → (x : Cell) → filter (is_by t) (values_in cell_cmp p x) ≡ filter (is_by t) (all_reads H x)
     gone_read t c q h x =
         let u : unfinished (drop 1 H) t.0 ≡ true = subst (λ (d : Event). MayNote S (drop 1 H) n d) q may in
@@ -238,7 +238,7 @@ module _ (S : Setup) (H : List Event) (n : ℕ) (e : Event) (is : H ≡ e ∷ dr
         let u : unfinished (drop 1 H) t.0 ≡ true = subst (λ (d : Event). MayNote S (drop 1 H) n d) q may in
         gone t c q b' at end z finished p (λ x. was.reads x ∙ reads_gone_off S (drop 1 H) n t c x (on_before t.0 u ∙ h))
 
-    -- an event that is of no concern
+    -- an event that does not concern the node
     pub idle : (d : Event) → e ≡ d → Passes S (drop 1 H) n d → ((x : Cell) → all_reads (d ∷ drop 1 H) x ≡ all_reads (drop 1 H) x) → ((u : ℕ) → is_gone u d ≡ false) → StampsStand n o b p S H
     idle d q passes keeps g = next b p refl (same_batches (subst (Passes S (drop 1 H) n) (sym q) passes))
         (same_reads (λ x. ap (λ (d : Event). all_reads (d ∷ drop 1 H) x) q ∙ keeps x) (λ u. ap (is_gone u) q ∙ g u))
@@ -255,12 +255,12 @@ module _ (S : Setup) (H : List Event) (n : ℕ) (e : Event) (is : H ≡ e ∷ dr
     unfolding all_reads
     told t q = idle (Told t) q tt (λ x. refl) (λ u. refl)
 
--- no reads are timely
+-- the empty history has no reads, so all are timely
 pub no_timely : IsTimely []
 unfolding IsTimely
 no_timely = tt
 
--- the reads of no events
+-- the empty multimap has the reads of the empty history
 pub no_reads : (p : ShownReads) (S : Setup) (n : ℕ) → p.entries ≡ [] → ReadsOf p S [] n
 unfolding reads all_reads
 no_reads p S n e = λ x. ap (λ (es : List (Cell × (Txn × Txn))). values_of cell_cmp es x) e

@@ -1,4 +1,4 @@
--- A read whose reader's batch closed before another starts: all reads before it are by those whose batches started before too.
+-- If a reader's batch closed before another starts, the batches of all earlier readers started before it too.
 use Rattle.std.proofs.Common.{◌≡◌, ℕ, ◌<◌, ◌≤◌, Bool, true, false, cond, ◌&&◌, ◌||◌, eqb, List, [], ◌∷◌, ◌++◌, length, refl, sym, ◌∙◌, subst, arith, le-ltb}
 use Rattle.std.proofs.lemmas.Bool.{and_left, and_right}
 use Rattle.teb_names.specs.declared.Txn.{Txn}
@@ -27,7 +27,7 @@ use Rattle.timestamp_node.proofs.OrderedLists.{IsOrderedBy, all_within, ordered_
 close_unfinished : (S : Setup) (H : List Event) (n u : ℕ) → IsNumbered H → unfinished H u ≡ true → on S H n u ≡ true → length H ≤ close S H n u
 close_unfinished S H n u l h o = open_late S H n u (unfinished_open S H n u l h o)
 
--- a batch closes no earlier for another event
+-- one more event never makes a batch close earlier
 first_grows : (p : List Event → Bool) (e : Event) (P : List Event) → first p P ≤ first p (e ∷ P)
 first_grows p e P = let z = first-le p P in elim (first_cases p e P) [ before a b ↦ omega arith | now a b c ↦ omega arith | later a b c ↦ omega arith ]
 
@@ -37,7 +37,7 @@ close_grows S e P n u h =
     subst (λ (s : ℕ). first (λ Q. begun Q u && idle S Q n (side S P n u)) P ≤ first (λ Q. begun Q u && idle S Q n s) (e ∷ P)) (sym (side_kept S e P n u h))
     (first_grows (λ Q. begun Q u && idle S Q n (side S P n u)) e P)
 
--- where the second reader is here, its batch closes after the start of the first's
+-- if the second reader is on the node, its batch closes after the start of the first reader's batch
 abbrev StartsBefore : Setup → List Event → ℕ → Txn × Txn → Txn × Txn → Type 0
 StartsBefore S H n a b = on S H n b.0.0 ≡ true → start S H n a.0.0 < close S H n b.0.0
 
@@ -52,7 +52,7 @@ starts_kept S e P n l a b f g h o =
     let w = h (sym (on_kept S e P n b.0.0 kb) ∙ o) in
     omega arith
 
--- who has read has begun
+-- every reader has begun
 readers_begun : (P : List Event) (x : Cell) → IsTimely P → AllOf (λ r. begun P r.0.0 ≡ true) (all_reads P x)
 unfolding all_reads IsTimely
 readers_begun [] x k = tt
@@ -63,7 +63,7 @@ readers_begun (Got t y w v ∷ P) x k = go (same_cell y x) (all_map _ _ (λ r h.
     go false o = o
 readers_begun (e ∷ P) x k = all_map _ _ (λ r h. begun_kept e P r.0.0 h) (all_reads P x) (readers_begun P x k)
 
--- the batch of each reader closes after those of the readers up to it have started
+-- the batch of each reader closes after the batches of the earlier readers have started
 all_ordered : (S : Setup) (n : ℕ) (P : List Event) (x : Cell) → IsNumbered P → IsTimely P → IsOrderedBy (StartsBefore S P n) (all_reads P x)
 unfolding all_reads IsTimely IsNumbered
 all_ordered S n [] x l k = unfold IsOrderedBy in tt
@@ -86,7 +86,7 @@ pub read_at : (S : Setup) (H : List Event) (n : ℕ) (x : Cell) (front : List (T
 read_at S H n x front r behind e = all_within (IsRead S H n x) front r behind (subst (AllOf (IsRead S H n x)) e (reads_are S H n x))
 
 module _ (S : Setup) (H : List Event) (n : ℕ) (x : Cell) (t : ℕ) (l : IsNumbered H) (k : IsTimely H) where
-  -- up to a read whose reader's batch closed before t's starts, the readers' batches started before t's
+  -- up to a read whose reader's batch closed before t's starts, all readers' batches started before t's
   pub older_reads : (front : List (Txn × Txn)) (r : Txn × Txn) (behind : List (Txn × Txn)) → reads S H n x ≡ front ++ r ∷ behind → close S H n r.0.0 < start S H n t
       → AllOf (λ u. start S H n u.0.0 < start S H n t) (front ++ r ∷ [])
   unfolding reads
@@ -95,13 +95,13 @@ module _ (S : Setup) (H : List Event) (n : ℕ) (x : Cell) (t : ℕ) (l : IsNumb
       let is = read_at S H n x front r behind e in
       all_map _ _ (λ u h. let z = h is.here in omega arith) (front ++ r ∷ []) (ordered_upto (StartsBefore S H n) front r behind o)
 
-  -- so t's write comes too late for none of them
+  -- so t's write is not too late for any of them
   pub older_in_time : (front : List (Txn × Txn)) (r : Txn × Txn) (behind : List (Txn × Txn)) → reads S H n x ≡ front ++ r ∷ behind → close S H n r.0.0 < start S H n t
       → AllOf (λ u. is_after S H n t x u ≡ false) (front ++ r ∷ [])
   older_in_time front r behind e c = all_map _ _ (λ u h. and_left _ (eqb u.1.0 t || precedes S H x u.1.0 t) (and_right (meets S H n t u.0.0) _ (le-ltb _ _ (omega (arith, h))))) (front ++ r ∷ [])
       (older_reads front r behind e c)
 
--- and reads stay timely
+-- reads stay timely
 pub timely_next : (S : Setup) (P : List Event) (n : ℕ) (e : Event) → MayNote S P n e → IsTimely P → IsTimely (e ∷ P)
 unfolding IsTimely
 timely_next S P n (Began t s c i) m k = k

@@ -1,4 +1,4 @@
--- Lists in which each element stands in a relation to itself and to all behind it.
+-- Lists in which each element is in a relation to itself and to all later ones.
 use Rattle.std.proofs.Common.{◌≡◌, Bool, true, false, cond, List, [], ◌∷◌, ◌++◌, length, filter, arith}
 use Rattle.timestamp_node.proofs.Readers.{AllOf, all_push}
 
@@ -46,7 +46,7 @@ module _ {A : Type 0} where
   ordered_map p R Q f [] h o = tt
   ordered_map p R Q f (x ∷ xs) h o = (all_with p (R x) (Q x) (λ y k r. f x y h.0 k r) (x ∷ xs) h o.0, ordered_map p R Q f xs h.1 o.1)
 
-  -- whatever stands up to an element is related to it
+  -- every element up to a given one is related to it
   pub ordered_upto : (R : A → A → Type 0) (xs : List A) (a : A) (ys : List A) → IsOrderedBy R (xs ++ a ∷ ys) → AllOf (λ x. R x a) (xs ++ a ∷ [])
   unfolding IsOrderedBy
   ordered_upto R [] a ys o = (o.0.0, tt)

@@ -15,7 +15,7 @@ use Rattle.teb_rules.specs.Tree.{on}
 use Rattle.phase_api.specs.Versions.{reads_from}
 use Rattle.timestamp_node.specs.Reads.{all_reads, reads}
 
--- each of a list
+-- a property of each element of a list
 abbrev pub AllOf : {A : Type 0} → (A → Type 0) → List A → Type 0
 AllOf p [] = Unit {0}
 AllOf p (x ∷ xs) = p x × AllOf p xs
@@ -37,7 +37,7 @@ module _ {A : Type 0} where
       go true e ih = ((e, h.0), ih)
       go false e ih = ih
 
-  -- tests that agree
+  -- tests that agree on a list select the same from it
   pub filter_agree : (p q : A → Bool) (xs : List A) → AllOf (λ x. p x ≡ q x) xs → filter p xs ≡ filter q xs
   filter_agree p q [] h = refl
   filter_agree p q (x ∷ xs) h = λ j. cond (h.0 j) (x ∷ filter_agree p q xs h.1 j) (filter_agree p q xs h.1 j)
@@ -61,7 +61,7 @@ all_read (Got t y w v ∷ P) x = go (same_cell y x) refl (all_map _ _ (λ r h. o
     go false e o = o
 all_read (_ ∷ P) x = all_read P x
 
--- r is a Got of x by somebody here who is not aborted
+-- r is a Got of x by a transaction that has the node on its path and is not aborted
 pub record IsRead (S : Setup) (H : List Event) (n : ℕ) (x : Cell) (r : Txn × Txn) : Type 0 where
   pub here : on S H n r.0.0 ≡ true
   pub stands : aborted H r.0.0 ≡ false

@@ -1,4 +1,4 @@
--- What a timestamp node says.
+-- The answers of a timestamp node.
 use Rattle.std.proofs.Common.{◌≡◌, ℕ, suc, ◌<◌, Bool, true, false, cond, not, ◌&&◌, ◌||◌, eqb, ltb, List, [], ◌∷◌, find, length, slice_get, Option, Some, None, refl, sym, ◌∙◌, ap, subst, inl, inr, arith, eq-eqb, lt-ltb, le-leb, ltb-true}
 use Rattle.std.specs.List.{list_any}
 use Rattle.std.proofs.lemmas.Bool.{cases_Bool, and_parts, or_left, ltb-false, eqb-true}
@@ -36,7 +36,7 @@ wait_txn : (o : Option ℕ) → wait_for_txn (txn_of o) ≡ wait_for o
 wait_txn None = refl
 wait_txn (Some u) = refl
 
--- a break by the reader that was found
+-- a break for the reader that was found
 abbrev pub break_by : Cell → Option Txn → Verdict
 break_by x None = Go
 break_by x (Some u) = Break (Late u x)
@@ -45,7 +45,7 @@ break_txn : (x : Cell) (o : Option ℕ) → break_by x (txn_of o) ≡ break_for 
 break_txn x None = refl
 break_txn x (Some u) = refl
 
--- an unfinished u that meets t and started before it
+-- u is unfinished, meets t, and its batch started before t's
 abbrev pub holds_back : Setup → List Event → ℕ → ℕ → ℕ → Bool
 holds_back S H n t u = unfinished H u && meets S H n t u && ltb (start S H n u) (start S H n t)
 
@@ -70,7 +70,7 @@ module _ (S : Setup) (H : List Event) (n : ℕ) (k : (row S.tree n).control ≡ 
   unfolding orders
   stamps_orders u w x = rw k refl
 
-  -- a leaf asks nothing at a Begin
+  -- a leaf does not delay a Begin
   pub begin_leaf : (s : Spot) → n ≡ leaf S.tree s → Go ≡ on_begin S H s n
   begin_leaf s e = sym (begin_waits S H s n ∙ go (has_batches S.tree n) (eqb n (leaf S.tree s)) (eq-eqb n (leaf S.tree s) e))
     where
@@ -96,11 +96,11 @@ module _ (S : Setup) (H : List Event) (n : ℕ) (k : (row S.tree n).control ≡ 
   unfolding gate
   gate_is t u b o = rw (k, o) refl
 
-  -- nobody holds back where the node is not ordered
+  -- if the node is not ordered, no transaction holds t back
   pub gate_open : (t : ℕ) → false ≡ (row S.tree n).ordered → Go ≡ wait_for (find (gate (row S.tree n).control S H n t) (txns H))
   gate_open t o = ap wait_for (sym (find_alike _ (λ (u : ℕ). false) (λ u. gate_is t u false o) (txns H) ∙ nobody (txns H)))
 
-  -- who holds t back is found among the live ones
+  -- the transaction that holds t back is found among the live ones
   pub gate_found : (t : ℕ) → IsOrderly S H → true ≡ (row S.tree n).ordered → (r : Option Txn) → r ≡ find (λ (u : Txn). holds_back S H n t u.0) (live_txns H)
       → wait_for_txn r ≡ wait_for (find (gate (row S.tree n).control S H n t) (txns H))
   gate_found t w o r h =
@@ -120,7 +120,7 @@ module _ (S : Setup) (H : List Event) (n : ℕ) (k : (row S.tree n).control ≡ 
         | inr b ↦ b ∙ sym (ap (λ (c : Bool). is_numbered H u && c) b ∙ and_false (is_numbered H u))
       ]
 
--- a writer that is found in a list stands at the place, and one that is not found is not there
+-- a place that is found in a longer list is one more than its place in the rest
 place_next : (o : Option ℕ) (i : ℕ) → next_place o ≡ Some i → (j : ℕ) × (i ≡ suc j) × (o ≡ Some j)
 place_next None i e = absurd (cc)
 place_next (Some j) i e = (j, (let z : Some (suc j) ≡ Some i = e in cc), refl)
@@ -147,7 +147,7 @@ not_found (v ∷ ws) w e = elim (cases_Bool (eqb v w)) [
     rest None e = refl
     rest (Some i) e = absurd (cc)
 
--- a version that is there is before t's where its place is below that of t's
+-- a version precedes t's if and only if its place is below that of t's
 pub place_tells : (S : Setup) (H : List Event) (x : Cell) (t at : ℕ) (ws : List ℕ) (w i : ℕ) → IsPlaceOf S H x t at ws → slice_get ws i ≡ Some w → ltb i at ≡ precedes S H x w t
 place_tells S H x t at ws w i p h = elim (cases_Bool (ltb i at)) [
   | inl l ↦ l ∙ sym (p.before i w (ltb-true i at l) h)

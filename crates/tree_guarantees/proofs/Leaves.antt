@@ -1,4 +1,4 @@
--- The leaves of a type, and the ways to them.
+-- The leaves of a type, and the paths to them.
 use Rattle.std.proofs.Common.{◌≡◌, ℕ, suc, ◌+◌, ◌<◌, Bool, true, false, cond, not, ◌&&◌, ◌||◌, eqb, List, [], ◌∷◌, ◌++◌, length, find, Option, Some, None, unwrap_or, refl, sym, ◌∙◌, ap, subst, arith, eq-eqb, IsTrue}
 use Rattle.std.specs.Prelude.{IfSome}
 use Rattle.std.proofs.lemmas.Bool.{and_parts, and_from, false≢true}
@@ -18,7 +18,7 @@ use Rattle.tree_guarantees.specs.Conditions.{Guarantees, ServesReads, has_batche
 use Rattle.tree_guarantees.proofs.Members.{all_have}
 use Rattle.tree_guarantees.proofs.Paths.{reads_are_served}
 
--- the parent of a row of the tree
+-- the parent of a row of the tree, as a number
 pub parent_is : (T : List NodeRow) (n : ℕ) (r : Row) → row_of r ≡ row T n → parent_number r.parent ≡ (row T n).parent
 parent_is T n r e = ap (λ (q : NodeRow). q.parent) e
 
@@ -29,7 +29,7 @@ parent_within T n r accepted low e = go r.parent (parent_is T.rows n r e)
     go None e = tt
     go (Some p) e = omega (arith, low, accepted.parents n p.0 (sym e))
 
--- a test of the numbers below a bound
+-- a test of all numbers below a bound
 pub all_zero : (p : ℕ → Bool) → list_all p (below 0) ≡ true
 unfolding below
 all_zero p = refl
@@ -52,7 +52,7 @@ one_missing p n m low e = go (list_all p (below m)) refl
     go false h = sym h
     go true h = absurd (false≢true (sym e ∙ all_have p (below m) n h (among_below n m low)))
 
--- the way to the leaf of an instance: that to one of the leaves of the type, or to the root
+-- the way to the leaf of an instance is that to one of the leaves of the type, or to the root
 found : (T : List NodeRow) (k i : ℕ) (ns : List ℕ) → way_has_batches T 0 ≡ true → list_all (has_batches_for T k) ns ≡ true
     → way_has_batches T (unwrap_or (find (λ n. houses (row T n) (spot k i)) ns) 0) ≡ true
 found T k i [] root all = root

@@ -1,4 +1,4 @@
--- A node is drawn after those before it.
+-- A node is drawn after the earlier ones.
 use Rattle.std.proofs.Common.{◌≡◌, ℕ, zero, suc, ◌+◌, ◌-◌, ◌<◌, ◌≤◌, Bool, ◌==◌, List, [], ◌∷◌, ◌++◌, length, drop, take, refl, sym, ap, ◌∙◌, subst, append_assoc, arith}
 use Rattle.std.proofs.lemmas.List.{append-nil, drop-map, length-drop, take_all}
 use Rattle.teb_names.specs.declared.Node.{Node}
@@ -31,17 +31,17 @@ module _ (names : NameBook) (T : List NodeRow) (inner : List ℕ → ℕ → Lis
       ap (λ (l : List ℕ). new ++ branches names T inner prefix l) next ∙ ap (λ (l : List ℕ). l ++ tail) (new_is ∙ append_assoc out line under) ∙ append_assoc out (line ++ under) tail
       ∙ ap (λ (l : List ℕ). out ++ branches names T inner prefix l) (sym here) ∙ so_far
 
--- the nodes from a place on
+-- the nodes from place i on
 pub from_on : (s items : List Node) (i : ℕ) → s ≡ items → take (length s - i) (drop i s) ≡ drop i items
 from_on s items i e = take_all (length s - i) (drop i s) (omega (arith, length-drop i s)) ∙ ap (drop i) e
 
--- no level is drawn
+-- with no levels left, nothing is drawn
 pub none_drawn : (names : NameBook) (T : List NodeRow) (levels : ℕ) (prefix : List ℕ) (p : ℕ) (out : List ℕ) → levels ≡ 0 → out ≡ out ++ drawn names T levels prefix p
 unfolding drawn
 none_drawn names T zero prefix p out e = sym (append-nil out)
 none_drawn names T (suc d) prefix p out e = absurd (omega (arith, e))
 
--- all that is below a node is drawn
+-- everything below a node was drawn
 pub all_drawn : (names : NameBook) (T : List NodeRow) (levels : ℕ) (prefix : List ℕ) (p : ℕ) (ns : List ℕ) (i : ℕ) (old out : List ℕ) → 0 < levels → ns ≡ children T p → length ns ≤ i
     → out ++ branches names T (drawn names T (levels - 1)) prefix (drop i ns) ≡ old ++ branches names T (drawn names T (levels - 1)) prefix ns → out ≡ old ++ drawn names T levels prefix p
 unfolding drawn

@@ -1,4 +1,4 @@
--- The sentences, one after another.
+-- The sentences of a report, one after another.
 use Rattle.std.proofs.Common.{◌≡◌, Bool, ℕ, List, [], ◌++◌, Result, Ok, Err, ap, ◌∙◌, IsTrue}
 use Rattle.std.specs.Prelude.{OnOk, ◌↔◌}
 use Rattle.teb_rules.specs.Setup.{NodeRow, Setup}

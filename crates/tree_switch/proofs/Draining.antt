@@ -1,4 +1,4 @@
--- A history is drained exactly if no transaction is live.
+-- A history is drained if and only if no transaction is live.
 use Rattle.std.proofs.Common.{◌≡◌, ◌==◌, ℕ, Bool, true, false, List, [], ◌∷◌, length, Option, Some, None, refl, sym, ◌∙◌, ap, inl, inr, arith, eq-eqb, eqb}
 use Rattle.std.specs.Prelude.{◌↔◌, IsTrue}
 use Rattle.std.proofs.lemmas.Bool.{both_ways, and_from, or_left, or_right}

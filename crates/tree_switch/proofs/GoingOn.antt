@@ -1,11 +1,11 @@
--- Phases go on: the present one comes further, or another one follows it.
+-- Phases continue: the present one advances, or another one follows it.
 use Rattle.std.proofs.Common.{◌≡◌, ℕ, List, [], ◌∷◌, ◌++◌, refl, sym, ◌∙◌, ap, subst}
 use Rattle.teb_names.specs.declared.Cell.{Cell}
 use Rattle.teb_rules.specs.Replay.{Values}
 use Rattle.engine_core.specs.EngineModel.{EngineModel, IsOfEngine}
 use Rattle.tree_switch.specs.Courses.{first_of, start_of, end_of, StartsWith, GoOn, IsCourse}
 
--- the present phase, with another history
+-- the present phase with another history
 further_on : (names : List (List ℕ)) (T : Values) (past : List EngineModel) (e f : EngineModel) → f.store ≡ e.store → f.names ≡ e.names → IsOfEngine f → GoOn names T (past ++ e ∷ [])
     → GoOn names T (past ++ f ∷ [])
 further_on names T [] e f s n i g = (
@@ -28,7 +28,7 @@ tables_last : (names : List (List ℕ)) (T : Values) (past : List EngineModel) (
 tables_last names T [] e g = g.0.tables
 tables_last names T (d ∷ ds) e g = tables_last names (end_of d) ds e g.1
 
--- one phase more
+-- one more phase
 one_more : (names : List (List ℕ)) (T : Values) (past : List EngineModel) (e f : EngineModel) → StartsWith names (end_of e) f → GoOn names T (past ++ e ∷ [])
     → GoOn names T ((past ++ e ∷ []) ++ f ∷ [])
 one_more names T [] e f s g = (g.0, (s, tt))

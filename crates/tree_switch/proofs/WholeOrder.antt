@@ -1,4 +1,4 @@
--- The serial orders of phases, one after the other, are right.
+-- The concatenation of the serial orders of the phases is serial for the whole run.
 use Rattle.std.proofs.Common.{◌≡◌, ℕ, List, [], ◌∷◌, ◌++◌, map, refl, sym, ◌∙◌, ap, subst}
 use Rattle.std.specs.List.{All}
 use Rattle.std.proofs.lemmas.List.Elements.{All-nil, All-cons}
@@ -13,7 +13,7 @@ use Rattle.engine_core.proofs.Reached.{law_of}
 use Rattle.tree_switch.specs.Courses.{Course, phases, first, start_of, end_of, StartsWith, GoOn, IsCourse}
 use Rattle.tree_switch.specs.Serial.{Order, order_of, whole_order, table_along, ReadsRight, IsSerial}
 
--- of the transactions of one history
+-- the order of one history
 pub along_one : (H : List Event) (ts : List ℕ) (T : Values) → table_along (map (λ t. (H, t)) ts) T ≡ table_after H ts T
 unfolding table_after
 along_one H [] T = refl
@@ -24,7 +24,7 @@ unfolding ReplaysRight
 reads_one H [] T r = tt
 reads_one H (t ∷ ts) T r = (r.0, reads_one H ts (after_puts H t T) r.1)
 
--- of two orders, one after the other
+-- the concatenation of two orders
 pub along_both : (xs ys : Order) (T : Values) → table_along (xs ++ ys) T ≡ table_along ys (table_along xs T)
 along_both [] ys T = refl
 along_both (r ∷ xs) ys T = along_both xs ys (after_puts r.0 r.1 T)
@@ -43,7 +43,7 @@ serializes e i = law_of (λ X H. Serializes X H (serial_order X.setup H)) every_
 pub same_table : (T U : Values) → ((x : Cell) → T x ≡ U x) → T ≡ U
 same_table T U h = λ i x. h x i
 
--- one phase leads from the table with which it starts to the one that it leaves
+-- the order of one phase leads from its starting table to its final table
 module _ (names : List (List ℕ)) (T : Values) (e : EngineModel) (s : StartsWith names T e) where
   right : IsRight e
   right = serializes e s.engine
@@ -60,7 +60,7 @@ module _ (names : List (List ℕ)) (T : Values) (e : EngineModel) (s : StartsWit
   reads_phase : ReadsRight (order_of e) T
   reads_phase = reads_one e.events (serial_order e.store.setup e.events) T (subst (ReplaysRight e.events (serial_order e.store.setup e.events)) starts right.reads)
 
--- what the last of the phases leaves
+-- the final table of the last phase
 last_end : Values → List EngineModel → Values
 last_end T [] = T
 last_end T (e ∷ es) = last_end (end_of e) es

@@ -1,4 +1,4 @@
--- Steps that were made.
+-- Steps of which each was made.
 use Rattle.std.proofs.Common.{◌≡◌, ℕ, ◌+◌, List, [], ◌∷◌, length, Result, Ok, Err, refl, subst, arith}
 use Rattle.toml.specs.Data.{Data}
 use Rattle.tree_toml.specs.Reading.{each, at, ◌>>=◌}
@@ -18,7 +18,7 @@ at_ok p (Err w) x e = absurd (cc)
 pub ok_is : {A E : Type 0} (r : Result A E) (x y : A) → r ≡ Ok x → r ≡ Ok y → x ≡ y
 ok_is r x y is e = (cc)
 
--- what each step keeps
+-- a property that each step keeps
 pub each_keeps : {A : Type 0} (P : A → Type 0) (f : ℕ → A → Data → Result A TreeText) → ((i : ℕ) (a : A) (d : Data) (b : A) → P a → f i a d ≡ Ok b → P b)
     → (i : ℕ) (a : A) (ds : List Data) (b : A) → P a → each f i a ds ≡ Ok b → P b
 unfolding each

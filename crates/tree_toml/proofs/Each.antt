@@ -1,4 +1,4 @@
--- A loop over the values of an array, which have made `a` so far: a fault, one more, the end.
+-- A loop over the values of an array that have made `a` so far: a value with a fault, one more value, the end.
 use Rattle.std.proofs.Common.{◌≡◌, ℕ, ◌+◌, ◌<◌, ◌≤◌, List, ◌∷◌, drop, length, get_or, map, Result, Ok, Err, sym, ◌∙◌, drop_of_length-le}
 use Rattle.std.proofs.lemmas.List.{drop_more}
 use Rattle.toml.specs.Data.{Data}
@@ -8,7 +8,7 @@ use Rattle.tree_toml.specs.Reading.{each, UnlessMemory}
 use Rattle.tree_toml.specs.declared.fault.TreeText.{TreeText}
 use Rattle.tree_toml.specs.declared.fault.TreeText.TheVariants.{NotToml, Field, Shape, Misplaced, OutOfMemory}
 
--- the values from an index on: the one there, and those after it
+-- the values from an index on are the one there and those after it
 here : (vs : List Value) (k : ℕ) (x : Value) → x ≡ get_or vs k x → k < length vs → map view (drop k vs) ≡ view x ∷ map view (drop (k + 1) vs)
 here vs k x is h = rw (drop_more vs k x h, ← is)
 

@@ -1,4 +1,4 @@
--- What is so of the names that were read.
+-- The properties of the names that were read.
 use Rattle.std.proofs.Common.{◌≡◌, ℕ, Bool, true, false, not, if◌then◌else◌, List, [], ◌∷◌, ◌++◌, codes, Ok, Err, refl, subst}
 use Rattle.std.specs.List.{IsDistinct, list_all}
 use Rattle.std.specs.Str.{bytes_eq}
@@ -20,7 +20,7 @@ use Rattle.tree_toml.specs.declared.fault.Key.TheVariants as key
 use Rattle.tree_toml.specs.declared.fault.Place.{Place}
 use Rattle.tree_toml.proofs.Bound.{bind_ok, at_ok, ok_is, each_keeps}
 
--- names as names may be, no two of them the same
+-- well-formed names, no two of them the same
 pub record AreNames (names : List (List ℕ)) : Type 0 where
   pub are : list_all is_name names ≡ true
   pub differ : IsDistinct bytes_eq names
@@ -35,7 +35,7 @@ all_push p (n ∷ names) s all here =
     let h = and_parts (p n) (list_all p names) all in
     and_from (p n) (list_all p (names ++ s ∷ [])) h.0 (all_push p names s h.1 here)
 
--- a name that was added is one, and a new one
+-- a name that was added is well-formed and new
 added : (names : List (List ℕ)) (s : List ℕ) (new : List (List ℕ)) (a b : Bool) → (if not a then Err Name else if b then Err Repeated else Ok (names ++ s ∷ [])) ≡ Ok new
     → (a ≡ true) × (b ≡ false) × (names ++ s ∷ [] ≡ new)
 added names s new true false e = (refl, refl, ok_is _ _ new refl e)

@@ -1,4 +1,4 @@
--- What is so of the nodes that were read.
+-- The properties of the nodes that were read.
 use Rattle.std.proofs.Common.{◌≡◌, ℕ, ◌+◌, ◌-◌, ◌<◌, ◌≤◌, ℤ, pos, negsuc, Bool, true, false, not, ◌&&◌, ◌==◌, nat_le, if◌then◌else◌, List, [], ◌∷◌, length, length-append, codes, Option, Some, None, Result, Ok, Err, refl, ap, arith}
 use Rattle.std.proofs.lemmas.Bool.{leb-true}
 use Rattle.std.proofs.lemmas.List.Elements.{All-push, All-nil}
@@ -25,7 +25,7 @@ use Rattle.tree_toml.specs.declared.fault.TreeText.{TreeText}
 use Rattle.tree_toml.proofs.Bound.{bind_ok, at_ok, ok_is, each_keeps, each_count}
 use Rattle.tree_toml.proofs.Profiles.{numbered_within}
 
--- an answer behind two tests, or behind one
+-- a result guarded by two tests, or by one, is Ok only if they pass
 both_pass : {A E : Type 0} (a b : Bool) (x y : A) (w : E) → (if a && b then Ok x else Err w) ≡ Ok y → (a ≡ true) × (b ≡ true) × (x ≡ y)
 both_pass true true x y w e = (refl, refl, ok_is _ x y refl e)
 both_pass true false x y w e = absurd (cc)
@@ -58,7 +58,7 @@ counted_ok least most (Some es) ds e =
     let high : length es ≤ most = leb-true (length es) most h.1 in
     (omega (arith, ap length h.2), omega (arith, ap length h.2))
 
--- how many entries a list has
+-- the number of entries of a list is within its bounds
 pub list_ok : (l : ListName) (word : List ℕ) (k : Key) (least most : ℕ) (ms : Members) (ds : List Data) → list_at l word k least most ms ≡ Ok ds → (least ≤ length ds) × (length ds ≤ most)
 list_ok l word k least most ms ds e =
     let made = bind_ok (at (at_top k) (counted_at word least most ms)) _ ds e in
@@ -68,7 +68,7 @@ list_ok l word k least most ms ds e =
     let h = counted_ok least most array.0 made.0 array.2 in
     (omega (arith, ap length same, h.0), omega (arith, ap length same, h.1))
 
--- a new name is one more
+-- a new name makes the list one longer
 pub named_ok : (names : List (List ℕ)) (s : List ℕ) (new : List (List ℕ)) → named names s ≡ Ok new → length new ≡ length names + 1
 unfolding named
 named_ok names s new e =

@@ -1,4 +1,4 @@
--- Lists of numbers, and their last.
+-- Lists of numbers, and the last number of a list.
 use Rattle.std.proofs.Common.{◌≡◌, ℕ, ◌+◌, Bool, ◌||◌, eqb, List, [], ◌∷◌, ◌++◌, map, length, subst, refl, ap, add-one, Vec}
 use Rattle.std.specs.List.{list_any, All}
 use Rattle.std.proofs.lemmas.List.{length-map, get_or-map}
@@ -11,7 +11,7 @@ use Rattle.cc_tree.specs.Grown.{kind_numbers, row_of, rows_of}
 use Rattle.cc_tree.specs.declared.rows.NodeRow.{NodeRow as Row}
 use Rattle.txn_profile.specs.Steps.{numbers_of, steps_of}
 
--- what a search for a table answers
+-- a table is found in a list if and only if its number is among the numbers
 pub contains_table : (tables : List Table) (a : ℕ) → list_any (λ t. eqb t.0 a) tables ≡ among a (numbers_of tables)
 contains_table [] a = refl
 contains_table (t ∷ tables) a = ap (λ (b : Bool). eqb t.0 a || b) (contains_table tables a)
@@ -24,7 +24,7 @@ pub steps_pushed : (steps : List (Vec Table Global)) (s : Vec Table Global) → 
 steps_pushed [] s = refl
 steps_pushed (x ∷ steps) s = ap (λ ns. numbers_of x.items ∷ ns) (steps_pushed steps s)
 
--- one more below
+-- one more number below a bound
 pub below_more : (tables : List Table) (t : Table) (new : List Table) (n : ℕ) → numbers_of tables ≡ below n → new ≡ tables ++ t ∷ [] → t.0 ≡ n → numbers_of new ≡ below (n + 1)
 unfolding below
 below_more tables t new n so_far pushed is = rw (add-one, pushed, numbers_pushed, so_far, is)
@@ -37,7 +37,7 @@ pub rows_pushed : (rows : List Row) (r : Row) → rows_of (rows ++ r ∷ []) ≡
 rows_pushed [] r = refl
 rows_pushed (x ∷ rows) r = ap (λ rs. row_of x ∷ rs) (rows_pushed rows r)
 
--- what is so of all images is so of the images of all
+-- what holds of all images holds of the image of each element
 pub unmapped : {X Y : Type 0} (P : Y → Type 0) (f : X → Y) (xs : List X) → All P (map f xs) → All (λ x. P (f x)) xs
 unmapped P f xs all k d h = subst P (get_or-map f xs k d (f d) h) (all k (f d) (rw length-map h))
 

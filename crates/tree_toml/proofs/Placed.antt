@@ -1,4 +1,4 @@
--- A map of cells in their order, as rows that ascend.
+-- An ordered map from cells, as ascending rows.
 use Rattle.std.proofs.Common.{◌≡◌, Bool, true, false, cond, List, [], ◌∷◌, Option, Some, None, ℤ, refl, sym, ap, ◌∙◌, Ok, Err, ℕ}
 use Rattle.std.specs.BTreeMap.{insert_entry, is_at}
 use Rattle.std.specs.Map.{lookup}
@@ -28,7 +28,7 @@ pub looked_up : (rows : List (Cell × ℤ)) (x : Cell) → lookup (is_at (cell_c
 looked_up [] x = refl
 looked_up (r ∷ rows) x = rw (tied x r.0, looked_up rows x)
 
--- a first row of another cell, and no row of x behind it
+-- if x has no row, the first row is of another cell, and no row after it is of x
 skipped : (b : Bool) (v : ℤ) (o : Option ℤ) → cond b (Some v) o ≡ None → (b ≡ false) × (o ≡ None)
 skipped true v o e = absurd (cc)
 skipped false v o e = (refl, e)
@@ -44,7 +44,7 @@ inserted (r ∷ rows) x v none =
     let without = skipped (same_cell r.0 x) r.1 (row_of rows x) none in
     chosen (cell_cmp x r.0) _ _ _ _ (tied x r.0 ∙ without.0) (ap (λ (l : List (Cell × ℤ)). r ∷ l) (inserted rows x v without.1))
 
--- a row of a new cell, and one of a cell that has a row
+-- a row of a new cell is placed, and one of a cell that has a row is refused
 pub placed : (i : ℕ) (rows new : List (Cell × ℤ)) (r : Cell × ℤ) (v : ℤ) → None ≡ lookup (is_at (cell_cmp r.0)) rows → new ≡ insert_entry cell_cmp rows r.0 v → v ≡ r.1 → row_placed i rows r ≡ Ok new
 placed i rows new r v old is same =
     let none : row_of rows r.0 ≡ None = sym (looked_up rows r.0) ∙ sym old in

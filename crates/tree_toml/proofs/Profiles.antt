@@ -56,7 +56,7 @@ found names s t e = go (number_of names s) refl e
     go None is e = absurd (cc)
     go (Some n) is e = is ∙ ap Some (ok_is _ n t refl e)
 
--- a number of a name is below their count
+-- the number of a name is below the number of names
 pub numbered_within : (names : List (List ℕ)) (s : List ℕ) (t : ℕ) → numbered names s ≡ Ok t → t < length names
 numbered_within names s t e = (position-Some (bytes_eq s) names t [] (found names s t e)).0
 
@@ -143,7 +143,7 @@ steps_are p tables ds steps some few e = record {
   each_one = each_keeps (AreSteps (length tables)) (step_in p tables) (step_kept p tables) 0 [] ds steps tt e;
 }
 
--- all tables
+-- the tables below n
 above_below : (n : ℕ) → above (below n) ≤ n
 unfolding below
 above_below zero = omega arith

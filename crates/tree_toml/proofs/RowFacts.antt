@@ -1,4 +1,4 @@
--- What is so of the starting rows that were read.
+-- The properties of the starting rows that were read.
 use Rattle.std.proofs.Common.{◌≡◌, ℕ, ◌+◌, ◌<◌, ◌≤◌, ℤ, true, false, cond, if◌then◌else◌, List, [], ◌∷◌, length, codes, Option, Some, None, is_some, Ok, Err, refl, ap, arith}
 use Rattle.std.specs.List.{All, AllByRecursion}
 use Rattle.std.proofs.lemmas.List.Elements.{All-from_recursion}
@@ -41,7 +41,7 @@ length_after (r ∷ rows) x v =
       | false ↦ omega (arith, length_after rows x v)
     ]
 
--- a row that was placed had no cell before
+-- the cell of a row that was placed had no row before
 placed_by : (o : Option ℤ) (w : TreeText) (rows new : List Row) → (if is_some o then Err w else Ok rows) ≡ Ok new → (o ≡ None) × (rows ≡ new)
 placed_by None w rows new e = (refl, ok_is _ rows new refl e)
 placed_by (Some v) w rows new e = absurd (cc)

@@ -1,4 +1,4 @@
--- What is so of the tables and the types that were read.
+-- The properties of the tables and the types that were read.
 use Rattle.std.proofs.Common.{◌≡◌, ℕ, zero, suc, ◌+◌, ◌<◌, ◌≤◌, List, [], ◌∷◌, ◌++◌, length, length-append, get_or, codes, Ok, refl, ap, arith}
 use Rattle.teb_rules.specs.Setup.{above_profiles}
 use Rattle.toml.specs.Data.{Data, Members, as_str}
@@ -27,7 +27,7 @@ tables_ok ms tables e =
     let count = each_count length table_in table_more 0 [] ds.0 tables ds.2 in
     (omega (arith, count, limits.0), omega (arith, count, limits.1))
 
--- each profile is steps on tables below n
+-- each profile consists of steps on tables below n
 abbrev pub AreProfiles : ℕ → List (List (List ℕ)) → Type 0
 AreProfiles n [] = Unit {0}
 AreProfiles n (steps ∷ profiles) = IsSteps n steps × AreProfiles n profiles
@@ -76,7 +76,7 @@ type_more tables i types d new e =
     let steps = bind_ok (steps_in (place list.Types i key.Steps) tables ms.0) _ new names.2 in
     omega (arith, ap (λ (t : TypeList). length t.names) (ok_is _ _ new refl steps.2), name_ok (place list.Types i key.Name) types.names ms.0 names.0 names.1)
 
--- at most 64 types, as many profiles
+-- at most 64 types, and as many profiles
 pub record AreTyped (n : ℕ) (types : TypeList) : Type 0 where
   pub profiles : AreProfiles n types.profiles
   pub same : length types.profiles ≡ length types.names

@@ -1,4 +1,4 @@
--- Arrays and keys of tables, as lists.
+-- Arrays, and the keys of tables, as lists.
 use Rattle.std.proofs.Common.{◌≡◌, ℕ, ◌+◌, ◌<◌, List, [], ◌∷◌, ◌&&◌, Bool, true, false, String, string_bytes, map, drop, length, get_or, refl, ap}
 use Rattle.std.proofs.lemmas.List.{drop_more}
 use Rattle.std.specs.declared.alloc.Global.{Global}
@@ -25,7 +25,7 @@ pub known_keys : (l : ListName) (format : ℕ) (es : List Entry) → all_known l
 known_keys l format [] = refl
 known_keys l format (e ∷ es) = ap (λ b. has (keys_of l format) (string_bytes e.0) && b) (known_keys l format es)
 
--- a loop that tests each value: one that fails, one more
+-- a loop that tests each value: a value that fails, one more value
 pub all_fails : (p : Data → Bool) (vs : List Value) (k : ℕ) (x : Value) (whole : Bool) → list_all p (map view (drop k vs)) ≡ whole → x ≡ get_or vs k x → k < length vs → p (view x) ≡ false
     → false ≡ whole
 all_fails p vs k x whole so_far is h bad = (rw (drop_more vs k x h, ← is, bad) at so_far)

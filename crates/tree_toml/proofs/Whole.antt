@@ -46,7 +46,7 @@ plain_sound = record { some = omega arith; parts = parts; accepted = refl; profi
     filled zero (suc i) h j = absurd (omega arith)
     filled (suc k) i h j = absurd (omega arith)
 
--- all that is so of a setup that was read
+-- the properties of a setup that was read
 record IsRead (m : SetupView) : Type 0 where
   whole : IsWhole m
   named : IsNamed m
@@ -138,7 +138,7 @@ unfolding document_of
 text_read true text m e = rw (← ok_is _ plain m refl e) plain_read
 text_read false text m e = document_read (parse_document text) (is_utf8 text) m e
 
--- of what a text is, whatever it is read into
+-- what a text is does not depend on what it is read into
 module _ (text : List ℕ) where
   read_from : (r : Result SetupRead TreeText) → Answers setup_view r (setup_of_text text) → IfOk r (λ s. IsRead (setup_view s))
   unfolding setup_of_text

@@ -1,4 +1,4 @@
--- To look at serving, and to take the slot where it is the seat's ticket, keeps the rule.
+-- Reading `serving`, and taking the slot if it is the seat's ticket, keeps the rule.
 use Rattle.std.proofs.Common.{◌≡◌, ◌≢◌, ℕ, suc, false, true≢false, List, [], set, get_or, sym, refl, ap, ◌∙◌, subst, ⊎_elim, inr, arith, Option, Some, None}
 use mathlib.Core.Option.{none}
 use mathlib.Core.Logic.{dite}

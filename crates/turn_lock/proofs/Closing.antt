@@ -1,4 +1,4 @@
--- The value at the end, where one seat has all owners, and what it tells of the seats that were joined into it.
+-- The value at the end, when one seat has all owners, and what it says of the seats that were joined into that seat.
 use Rattle.std.proofs.Common.{◌≡◌, ◌≢◌, ℕ, suc, ◌+◌, ◌≤◌, ◌<◌, Bool, true, false, true≢false, List, [], ◌∷◌, ◌++◌, length, sym, refl, ap, ◌∙◌, subst, ⊎_elim, arith, append_assoc, Option, Some, None, All}
 use mathlib.Core.Option.{some, some-injective}
 use mathlib.Core.Logic.{dite}
@@ -19,7 +19,7 @@ use Rattle.turn_lock.proofs.Counts.{total_two, same_yes, times_append, once_low,
 use Rattle.turn_lock.proofs.Lists.{All_map, All_none, All_cons, All_left, All_last, Some_not_None}
 
 module _ {T E B : Type 0} (entries : T → List E) (owner : E → ℕ) (note : T → ℕ → ℕ) (base_of : T → B) (base : B) (owners count : ℕ) where
-  -- the slot has the last value
+  -- the slot holds the last value
   pub record IsLast (v : View E B) (xs : List (Option T)) : Type 0 where
     pub value : T
     pub there : get_elem? xs 0 ≡ some (Some value)
@@ -46,7 +46,7 @@ module _ {T E B : Type 0} (entries : T → List E) (owner : E → ℕ) (note : T
       know : Knows owner base h.left k.notes k.serving v
       know = h.each id v at
 
-      -- nobody else has an owner
+      -- no other seat has an owner
       unowned : (j : ℕ) (u : View E B) → get_elem? s.views j ≡ some u → j ≢ id → (os : List ℕ) → u.owners ≡ os → u.owners ≡ []
       unowned j u e n [] is = is
       unowned j u e n (o ∷ os) is = let two = total_two (has_owner o) s.views j id u v n e at in let one = same_yes o o refl in let has : times o u.owners ≡ times o (o ∷ os) = ap (times o) is in
@@ -104,7 +104,7 @@ module _ {T E B : Type 0} (g : Ghosts T E B) (t : Turn T E B) where
   abbrev pub EndsWith : S → T → Type 0
   EndsWith s x = Ends g.entries g.owner g.note g.base (view_of s) x
 
-  -- some seats are left, one has those that were joined into it, and the value at its end tells of each of them
+  -- the seats that are left: one of them has the joined ones, and the value at its end tells of each
   pub record Joined (n : ℕ) (whole items : List S) (first : S) : Type 0 where
     pub ready : All IsReady items
     pub first_ready : IsReady first

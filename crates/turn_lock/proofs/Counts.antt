@@ -1,4 +1,4 @@
--- Lemmas on how often a number stands in a list, and on sums over the views.
+-- How often a number occurs in a list, and sums over the views.
 use Rattle.std.proofs.Common.{◌≡◌, ◌≢◌, ℕ, zero, suc, ◌+◌, ◌<◌, ◌≤◌, List, [], ◌∷◌, ◌++◌, set, sym, refl, ap, ◌∙◌, eq-eqb, ne_eqb, arith, if◌then◌else◌}
 use mathlib.Core.Option.{some, some-injective, some-ne-none}
 use mathlib.Core.Logic.{dite}
@@ -38,14 +38,14 @@ pub times_append : (o : ℕ) (xs ys : List ℕ) → times o (xs ++ ys) ≡ times
 times_append o [] ys = omega arith
 times_append o (x ∷ xs) ys = let h = times_append o xs ys in omega arith
 
--- without the first o there is one o less
+-- removing the first o removes one occurrence of it
 pub times_without : (o k : ℕ) (xs : List ℕ) → 0 < times o xs → times k (without o xs) + same k o ≡ times k xs
 times_without o k [] h = absurd (omega arith)
 times_without o k (x ∷ xs) h = dite (ℕ_discrete o x)
     (λ (e : o ≡ x). ap (λ b. times k (if b then xs else x ∷ without o xs) + same k o) (eq-eqb o x e) ∙ (let s : same k o ≡ same k x = ap (same k) e in omega arith))
     (λ (n : o ≢ x). ap (λ b. times k (if b then xs else x ∷ without o xs) + same k o) (ne_eqb o x n) ∙ (let z = same_no o x n in let r = times_without o k xs (omega arith) in omega arith))
 
--- one more number at the end
+-- one more number is added at the end
 pub once_up : (a b k t u : ℕ) → a ≤ b → IsOnceWithin a b k t → u ≡ t + same k b → IsOnceWithin a (b + 1) k u
 once_up a b k t u le s e = let in_ = s.0 in let below = s.1 in let above = s.2 in dite (ℕ_discrete k b)
     (λ (here : k ≡ b). let one = same_yes k b here in let none = above (omega arith) in ((λ _ _. omega arith), (λ h. absurd (omega arith)), λ h. absurd (omega arith)))
@@ -56,7 +56,7 @@ once_up a b k t u le s e = let in_ = s.0 in let below = s.1 in let above = s.2 i
           omega arith,
     ))
 
--- the first number leaves
+-- the first number is removed
 pub once_on : (a b k t u : ℕ) → a < b → IsOnceWithin a b k t → u + same k a ≡ t → IsOnceWithin (a + 1) b k u
 once_on a b k t u lt s e = let in_ = s.0 in let below = s.1 in let above = s.2 in dite (ℕ_discrete k a)
     (λ (here : k ≡ a). let one = same_yes k a here in let was = in_ (omega arith) (omega arith) in ((λ h _. absurd (omega arith)), (λ _. omega arith), λ h. absurd (omega arith)))
@@ -67,12 +67,12 @@ once_on a b k t u lt s e = let in_ = s.0 in let below = s.1 in let above = s.2 i
           omega arith,
     ))
 
--- no number is counted twice
+-- no number occurs twice
 pub once_most : (a b k t : ℕ) → IsOnceWithin a b k t → t ≤ 1
 once_most a b k t s = let in_ = s.0 in let below = s.1 in let above = s.2 in
     dite (dec_le a k) (λ le. dite (dec_le b k) (λ out. let z = above out in omega arith) (λ n. let o = in_ le (omega arith) in omega arith)) (λ n. let z = below (omega arith) in omega arith)
 
--- what is counted lies within
+-- a number that occurs is within the bounds
 pub once_low : (a b k t : ℕ) → IsOnceWithin a b k t → 0 < t → a ≤ k
 once_low a b k t s some_ = dite (dec_le a k) (λ le. le) (λ n. let z = s.1 (omega arith) in absurd (omega arith))
 

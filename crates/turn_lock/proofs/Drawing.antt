@@ -1,4 +1,4 @@
--- To draw a ticket keeps the rule.
+-- Drawing a ticket keeps the rule.
 use Rattle.std.proofs.Common.{◌≡◌, ℕ, suc, ◌+◌, ◌%◌, ◌^◌, ◌<◌, false, true≢false, List, ◌∷◌, set, get_or, sym, refl, ap, ◌∙◌, subst, arith, Option, None}
 use Rattle.atomic_table.specs.Table.{State, keeps, stepped, Allows}
 use Rattle.turn_lock.specs.declared.view.View.{View}

@@ -1,4 +1,4 @@
--- To join a seat into another keeps the rule.
+-- Joining a seat into another keeps the rule.
 use Rattle.std.proofs.Common.{◌≡◌, ◌≢◌, ℕ, suc, ◌+◌, false, true≢false, List, [], ◌∷◌, ◌++◌, set, sym, refl, ◌∙◌, subst, arith, None, All}
 use mathlib.Core.Option.{some}
 use lib.ListN.{get_elem?}
@@ -21,7 +21,7 @@ module _ {E B : Type 0} (owner : E → ℕ) (base : B) (left : List E) (notes : 
   more_heard a b hs f = All_map (IsHeard owner base left notes a) (IsHeard owner base left notes b) hs
       (λ h p. record { has_base = p.has_base; goes = p.goes; known = p.known; among = λ o. let x = p.among o in let y = f o in omega arith })
 
-  -- what a live view knows is heard of it
+  -- what a live view knows holds of what is heard from it
   hears : (serving : ℕ) (v : View E B) (owners : List ℕ) → v.owners ≢ [] → IsWithin v.owners owners → Knows owner base left notes serving v → IsHeard owner base left notes owners (heard_of v)
   hears serving v owners alive f k = record { has_base = (k.live alive).0; goes = k.goes; known = k.known; among = f }
 

@@ -1,4 +1,4 @@
--- Lemmas on lists and options.
+-- Lists and options.
 use Rattle.std.proofs.Common.{◌≡◌, ◌≢◌, ℕ, zero, suc, ◌≤◌, Bool, true, false, true≢false, List, [], ◌∷◌, ◌++◌, set, length, sym, refl, ap, subst, ⊎_elim, arith, Option, Some, None, All}
 use mathlib.Core.Option.{some, some-injective, some-ne-none}
 use lib.ListN.{get_elem?}
@@ -33,7 +33,7 @@ abbrev pub tail_of : {E : Type 0} → List E → List E
 tail_of [] = []
 tail_of (z ∷ zs) = zs
 
--- of two beginnings of one list, what follows the longer is the end of what follows the other
+-- of two prefixes of one list, what follows the longer is a suffix of what follows the other
 pub rest_after : {E : Type 0} (xs ys r q : List E) → xs ++ r ≡ ys ++ q → length ys ≤ length xs → (z : List E) × (q ≡ z ++ r)
 rest_after xs [] r q e l = (xs, sym e)
 rest_after [] (y ∷ ys) r q e l = absurd (omega arith)
@@ -44,7 +44,7 @@ set_same [] i v w e = absurd (some-ne-none v (sym e))
 set_same (x ∷ xs) zero v w e = refl
 set_same (x ∷ xs) (suc i) v w e = set_same xs i v w e
 
--- what holds of the new element and of the others holds of all
+-- a property of the new element and of all others is one of all elements
 pub all_set : {A : Type 0} (F : A → Type 0) (vs : List A) (me : ℕ) (w : A) → F w → ((j : ℕ) (u : A) → j ≢ me → get_elem? vs j ≡ some u → F u) → (j : ℕ) (u : A) → get_elem? (set vs me w) j ≡ some u
     → F u
 all_set F vs me w mine others j u e = ⊎_elim (λ t. subst F t.1 mine) (λ t. others j u t.0 t.1) (at_set vs me j w u e)

@@ -1,4 +1,4 @@
--- To move serving, and to give the slot back, keeps the rule: what the seat added is added for all.
+-- Incrementing `serving` and giving the slot back keeps the rule: what the seat added is added for all.
 use Rattle.std.proofs.Common.{◌≡◌, ◌≢◌, ℕ, suc, ◌+◌, ◌%◌, ◌^◌, ◌<◌, ◌≤◌, true, false, true≢false, List, [], ◌∷◌, ◌++◌, set, get_or, sym, refl, ap, ◌∙◌, subst, ⊎_elim, inl, arith, Option, Some, None, All}
 use mathlib.Core.Option.{some, none}
 use lib.ListN.{get_elem?}
@@ -15,7 +15,7 @@ use Rattle.turn_lock.proofs.Lists.{All_map, All_none, all_set, Some_is}
 use Rattle.turn_lock.proofs.Prefixes.{goes_none, goes_on}
 use Rattle.turn_lock.proofs.Places.{Homes, the_ticket, alone}
 
--- the value in the slot that was taken last
+-- the value that was last taken from the slot
 abbrev held_or : {T : Type 0} → T → List (ℕ × Option T) → T
 held_or x [] = x
 held_or x ((k, Some y) ∷ r) = y
@@ -37,7 +37,7 @@ module _ {T E B : Type 0} (entries : T → List E) (owner : E → ℕ) (note : T
     stands = new;
   }
 
-  -- what was heard stays so where seats of other owners add entries
+  -- what was heard stays true when seats of other owners add entries
   heard_on : (left more : List E) (ns theirs mine : List ℕ) (y : Rattle.turn_lock.specs.declared.view.Heard.Heard E B) → ((o : ℕ) → times o theirs + times o mine ≤ 1)
       → All (λ e. Has mine (owner e)) more
       → IsHeard owner base left ns theirs y → IsHeard owner base (left ++ more) ns theirs y

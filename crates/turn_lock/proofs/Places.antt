@@ -1,4 +1,4 @@
--- Where the value is, and who is at the turn.
+-- Where the value is, and which seat has the turn.
 use Rattle.std.proofs.Common.{◌≡◌, ◌≢◌, ◌⊎◌, ℕ, Bool, true, false, true≢false, List, set, get_or, sym, refl, ap, ◌∙◌, ⊎_elim, inl, inr, arith, Option, Some, None}
 use mathlib.Core.Option as mathlib_option
 use mathlib.Core.Option.{some, some-injective}
@@ -21,7 +21,7 @@ module _ {E B : Type 0} where
   pub the_ticket : (k t : ℕ) (v : View E B) → v.ticket ≡ Some t → has_ticket k v ≡ same k t
   the_ticket k t v e = ap (is_ticket k) e
 
-  -- one is at the turn and the other is not, so they are two seats
+  -- two seats of which one has the turn and the other does not are different
   pub apart : (vs : List (View E B)) (i j : ℕ) (v u : View E B) → get_elem? vs i ≡ some v → get_elem? vs j ≡ some u → v.inside ≡ false → u.inside ≡ true → j ≢ i
   apart vs i j v u a b out in_ is = true≢false (sym in_ ∙ ap (λ (x : View E B). x.inside) (sym (some-injective v u (sym a ∙ ap (get_elem? vs) (sym is) ∙ b))) ∙ out)
 
@@ -29,7 +29,7 @@ abbrev pub Homes : Type 0 → Type 0
 Homes T = List (mathlib_option.Option (Option T))
 
 module _ {T E B : Type 0} (entries : T → List E) (owner : E → ℕ) (note : T → ℕ → ℕ) (base_of : T → B) where
-  -- a seat that has the ticket served is alone at the turn
+  -- if a seat has the ticket that is served, no other seat has the turn
   pub alone : (base : B) (owners next serving : ℕ) (ns : List ℕ) (hs : Homes T) (vs : List (View E B)) (h : Stands entries owner note base_of base owners next serving ns hs vs) (i j : ℕ)
       (v u : View E B)
       → get_elem? vs i ≡ some v → get_elem? vs j ≡ some u → j ≢ i → v.ticket ≡ Some serving → u.inside ≡ false
@@ -41,7 +41,7 @@ module _ {T E B : Type 0} (entries : T → List E) (owner : E → ℕ) (note : T
           let x = the_ticket serving serving v mine in let y = the_ticket serving serving u theirs in let z = same_yes serving serving refl in
           let one = once_most serving next serving _ (h.tickets serving) in absurd (omega arith)
 
-  -- a seat's view changes, but not whether it is at the turn; the words of the notes change only where it is
+  -- a seat's view changes but not whether it has the turn, and the notes change only if it has it
   pub place_stays : (base : B) (left : List E) (ns ms : List ℕ) (hs : Homes T) (vs : List (View E B)) (id : ℕ) (v w : View E B) → get_elem? vs id ≡ some v → w.inside ≡ v.inside
       → (v.inside ≡ false → ms ≡ ns)
       → IsHome entries owner note base_of base left ns hs vs ⊎ IsAway entries owner note base_of hs vs → IsHome entries owner note base_of base left ms hs (set vs id w)
@@ -65,7 +65,7 @@ module _ {T E B : Type 0} (entries : T → List E) (owner : E → ℕ) (note : T
       })
       (λ other. record { away = a.away; holder = a.holder; view = a.view; there = set_else vs id a.holder w other ∙ a.there; inside = a.inside }))) p
 
-  -- a step that leaves its word and takes or gives no slot
+  -- a step that leaves its word unchanged, and neither takes nor gives a slot
   pub stepped_load : (base : B) (owners count : ℕ) (s : State (Option T) (View E B)) (id k : ℕ) (c : List (ℕ × Option T)) (w : View E B) (h : Holds entries owner note base_of base owners count s)
       → Stands entries owner note base_of base owners h.next h.serving h.notes s.homes (set s.views id w) → Holds entries owner note base_of base owners count
       (stepped s k (get_or s.words k 0) id c w keeps)

@@ -1,4 +1,4 @@
--- How the entries that were seen lie in later ones.
+-- The entries that were seen, as a part of later entries.
 use Rattle.std.proofs.Common.{◌≡◌, ℕ, ◌+◌, ◌≤◌, leb, Bool, true, false, List, [], ◌++◌, length, get_or, sym, refl, ap, ◌∙◌, subst, arith, append_assoc, append-nil, All, if◌then◌else◌}
 use Rattle.std.proofs.lemmas.List.Elements.{All-append}
 use Rattle.std.proofs.lemmas.Bool.{leb-true, leb-false}
@@ -23,7 +23,7 @@ module _ {E : Type 0} (owner : E → ℕ) where
         g.others;
   }
 
-  -- another seat adds entries of its own
+  -- another seat adds its entries
   pub goes_on : (seen left more : List E) (theirs mine : List ℕ) → ((o : ℕ) → times o theirs + times o mine ≤ 1) → All (λ e. Has mine (owner e)) more → GoesOn owner seen left theirs
       → GoesOn owner seen (left ++ more) theirs
   goes_on seen left more theirs mine apart own g = record {
@@ -43,7 +43,7 @@ module _ {E : Type 0} (owner : E → ℕ) where
   swap_owners : (xs left : List E) (a b : List ℕ) → GoesOn owner xs left (b ++ a) → GoesOn owner xs left (a ++ b)
   swap_owners xs left a b g = goes_fewer xs left (a ++ b) (b ++ a) (λ o. let p = times_append o a b in let q = times_append o b a in omega arith) g
 
-  -- the longer of two lists that were seen, for the owners of both
+  -- the longer of two lists that were seen goes on for the owners of both
   pub goes_both : (xs ys left : List E) (a b : List ℕ) → GoesOn owner xs left a → GoesOn owner ys left b → GoesOn owner (longer xs ys) left (a ++ b)
   goes_both xs ys left a b p q = go (leb (length ys) (length xs)) refl
     where

@@ -1,4 +1,4 @@
--- To publish a note keeps the rule.
+-- Publishing a note keeps the rule.
 use Rattle.std.proofs.Common.{◌≡◌, ◌≢◌, ℕ, suc, ◌+◌, ◌-◌, ◌<◌, ◌≤◌, true, true≢false, List, [], set, length, get_or, sym, refl, ap, ◌∙◌, subst, arith, Option, Some, All, length-set, get_or-set_same}
 use mathlib.Core.Option.{none}
 use Rattle.atomic_table.specs.Table.{State, step, keeps, stepped, Allows}

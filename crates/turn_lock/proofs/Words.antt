@@ -10,7 +10,7 @@ pub noted_long : (i r : ℕ) (l : List ℕ) → length (noted i r l) ≡ length 
 noted_long i zero l = refl
 noted_long i (suc r) l = length-set l i (suc r)
 
--- where the words are known, a look adds nothing
+-- a read of a word that is already known adds nothing
 pub noted_same : (i r : ℕ) (l : List ℕ) → r ≡ get_or l i 0 → noted i r l ≡ l
 noted_same i zero l e = refl
 noted_same i (suc r) l e = ap (λ (x : ℕ). set l i x) e ∙ set-get_or l i 0
@@ -21,12 +21,12 @@ noted_known i (suc r) l ns short e k j some_ = dite (ℕ_discrete j i)
     (λ (here : j ≡ i). ap (λ (x : ℕ). get_or ns x 0) here ∙ (sym e ∙ (sym (get_or-set_same l i (suc r) 0 short) ∙ ap (λ (x : ℕ). get_or (set l i (suc r)) x 0) (sym here))))
     (λ other. let z = get_or-set_other l i j (suc r) 0 other in k j (omega arith) ∙ sym z)
 
--- what was found is known
+-- a word that was read is known
 pub noted_at : (i r : ℕ) (l : List ℕ) → i < length l → (0 < get_or l i 0 → r ≡ get_or l i 0) → get_or (noted i r l) i 0 ≡ r
 noted_at i zero l short e = dite (dec_le 1 (get_or l i 0)) (λ some_. sym (e some_)) (λ none. omega arith)
 noted_at i (suc r) l short e = get_or-set_same l i (suc r) 0 short
 
--- a word that was 0 is set, and what is known stays
+-- setting a word that was 0 keeps what is known
 pub set_known : (i n : ℕ) (l ns : List ℕ) → get_or ns i 0 ≡ 0 → IsKnown l (λ j. get_or ns j 0) → IsKnown l (λ j. get_or (set ns i n) j 0)
 set_known i n l ns was known j some_ = dite (ℕ_discrete j i) (λ (e : j ≡ i). let z : get_or ns j 0 ≡ 0 = ap (λ (x : ℕ). get_or ns x 0) e ∙ was in let y = known j some_ in absurd (omega arith))
     (λ other. get_or-set_other ns i j n 0 other ∙ known j some_)

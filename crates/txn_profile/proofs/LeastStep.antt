@@ -1,4 +1,4 @@
--- The least step from a cursor on that has a table.
+-- The least step, from a cursor on, that has a table.
 use Rattle.std.proofs.Common.{◌≡◌, ℕ, zero, suc, ◌<◌, ◌≤◌, Bool, true, false, ◌&&◌, leb, le-leb, List, [], ◌∷◌, Some, None, refl, ◌∙◌, inl, inr, arith, length, get_or, find}
 use Rattle.std.proofs.lemmas.Bool.{cases_eq, leb-true}
 use Rattle.std.proofs.lemmas.List.Folds.{find-append}
@@ -26,7 +26,7 @@ passed_over steps cursor a k f = go (leb cursor k) refl
     go true e = f (leb-true cursor k e)
     go false e = refl
 
--- step i has the table, and none before it from the cursor on
+-- if step i has the table and none before it from the cursor on has, it is the least step
 pub least_step_here : (steps : List (List ℕ)) (cursor i a : ℕ) → cursor ≤ i → i < length steps → among a (get_or steps i []) ≡ true
     → ((k : ℕ) → cursor ≤ k → k < i → among a (get_or steps k []) ≡ false) → least_step steps cursor a ≡ Some i
 unfolding least_step

@@ -1,4 +1,4 @@
--- The order of cells is total, and two cells that it does not tell apart are one.
+-- The order of cells is total, and cells that compare as equal are equal.
 use Rattle.std.proofs.Common.{◌≡◌, ℕ, true, false, refl, sym, ap, ◌∙◌, eq-eqb, eqb-true}
 use Rattle.std.specs.declared.cmp.Ordering.{Ordering}
 use Rattle.std.specs.declared.cmp.Ordering.TheVariants.{Less, Equal, Greater}

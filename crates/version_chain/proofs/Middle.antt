@@ -1,4 +1,4 @@
--- A list in three parts of which a test passes the middle one alone: what the test keeps, also after an edit of the middle.
+-- A list in three parts of which a test passes only the middle one: what the test selects, also after an edit of the middle.
 use Rattle.std.proofs.Common.{◌≡◌, ℕ, zero, suc, ◌+◌, ◌-◌, ◌≤◌, ◌<◌, Bool, true, false, cond, List, [], ◌∷◌, ◌++◌, length, get_or, set, refl, ap, ◌∙◌, arith, append-nil}
 use Rattle.std.specs.List.{filter, insert}
 use Rattle.std.proofs.lemmas.List.{set-append_left, set-append_right}
@@ -6,7 +6,7 @@ use Rattle.std.proofs.lemmas.List.Edits.{insert-append_left, insert-append_right
 use Rattle.std.proofs.lemmas.List.Elements.{filter-append}
 
 module _ {X : Type 0} (p : X → Bool) where
-  -- p says b of each element
+  -- p returns b for each element
   abbrev pub Says : Bool → List X → Type 0
   Says b xs = (j : ℕ) (d : X) → j < length xs → p (get_or xs j d) ≡ b
 
@@ -32,7 +32,7 @@ module _ {X : Type 0} (p : X → Bool) where
   filter_set (x ∷ xs) zero v on h = rw on (ap (λ l. v ∷ l) (filter_all xs (says_rest true x xs h)))
   filter_set (x ∷ xs) (suc i) v on h = let first : p x ≡ true = h 0 x (omega arith) in rw first (ap (λ l. x ∷ l) (filter_set xs i v on (says_rest true x xs h)))
 
-  -- what the test keeps of three parts
+  -- the test selects the middle part
   filter_parts : (a m b : List X) → Says false a → filter p m ≡ m → Says false b → filter p (a ++ (m ++ b)) ≡ m
   filter_parts a m b before here after =
       filter-append p a (m ++ b) ∙ (ap (λ l. l ++ filter p (m ++ b)) (filter_none a before)
@@ -54,7 +54,7 @@ module _ {X : Type 0} (p : X → Bool) where
         ap (filter p) (set-append_right a (m ++ b) (length a) (length a + i) v refl (omega arith) ∙ (ap (λ j. a ++ set (m ++ b) j v) k ∙ ap (λ l. a ++ l) (set-append_left m b i v within)))
         ∙ filter_parts a (set m i v) b before (filter_set m i v on here) after
 
-  -- an edit of elements that the test does not pass
+  -- an edit of elements that do not pass the test does not change what it selects
   pub filter_insert_none : (xs : List X) (k : ℕ) (v : X) → p v ≡ false → filter p (insert xs k v) ≡ filter p xs
   filter_insert_none [] zero v off = rw off refl
   filter_insert_none [] (suc k) v off = rw off refl

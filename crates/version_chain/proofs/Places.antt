@@ -1,4 +1,4 @@
--- What the first and the last place of a list are, place by place.
+-- The first and the last place in a list at which a test passes, stated place by place.
 use Rattle.std.proofs.Common.{◌≡◌, ◌⊎◌, ℕ, zero, suc, ◌≤◌, ◌<◌, Bool, true, false, cond, eqb, IsTrue, List, [], ◌∷◌, length, get_or, refl, sym, ap, subst, ◌∙◌, arith, Option, Some, None, MatchOption, inl, inr, eq-eqb, ne_eqb}
 use Rattle.std.proofs.lemmas.Bool.{cases_lt, cases_order, or_right, or_from, le-leb, lt-leb}
 use Rattle.std.specs.List.{list_any}
@@ -6,7 +6,7 @@ use Rattle.std.proofs.lemmas.List.{get_or-map, length-map}
 use Rattle.teb_names.specs.declared.Txn.{Txn}
 use Rattle.version_chain.specs.Lists.{Version, writers_of, is_writer, next_place, first_place, last_place, unless_below, own_or_last}
 
--- p fails at each place from low on and below high
+-- p fails at each place from low to below high
 abbrev pub FailsWithin : (ℕ → Bool) → List ℕ → ℕ → ℕ → Type 0
 FailsWithin p ws low high = (j : ℕ) → low ≤ j → j < high → p (get_or ws j 0) ≡ false
 
@@ -16,7 +16,7 @@ IsFirst p ws r = MatchOption r (FailsWithin p ws 0 (length ws)) (λ i. (i < leng
 abbrev pub IsLast : (ℕ → Bool) → List ℕ → Option ℕ → Type 0
 IsLast p ws r = MatchOption r (FailsWithin p ws 0 (length ws)) (λ i. (i < length ws) × (p (get_or ws i 0) ≡ true) × FailsWithin p ws (suc i) (length ws))
 
--- the last place, where it is from or above
+-- the last place from `from` on
 abbrev pub IsLastFrom : ℕ → (ℕ → Bool) → List ℕ → Option ℕ → Type 0
 IsLastFrom from p ws r = MatchOption r (FailsWithin p ws from (length ws)) (λ i. (from ≤ i) × (i < length ws) × (p (get_or ws i 0) ≡ true) × FailsWithin p ws (suc i) (length ws))
 
@@ -57,7 +57,7 @@ last_place-found p (w ∷ ws) = step (p w) refl (last_place p ws) (last_place-fo
 passes_fails : (b : Bool) → b ≡ true → b ≡ false → ⊥
 passes_fails b t f = let z : true ≡ false = sym t ∙ f in cc
 
--- there is one first place, and one last
+-- the first place is unique, and so is the last
 pub first_place_is : (p : ℕ → Bool) (ws : List ℕ) (r : Option ℕ) → IsFirst p ws r → r ≡ first_place p ws
 first_place_is p ws r h = same r (first_place p ws) h (first_place-found p ws)
   where
@@ -85,7 +85,7 @@ last_place_is from p ws r h = same r (last_place p ws) h (last_place-found p ws)
       | inr other ↦ elim other [ inl lt ↦ absurd (passes_fails _ k.1 (h.3 j (omega (arith, lt)) k.0)) | inr gt ↦ absurd (passes_fails _ h.2 (k.2 i (omega (arith, gt)) h.1)) ]
     ]
 
--- the writer of a version, and that it is one of the writers
+-- a version's writer is at the version's place, and is one of the writers
 pub writer_at : (vs : List Version) (j : ℕ) (d : Version) → j < length vs → get_or (writers_of vs) j 0 ≡ (get_or vs j d).0.0
 writer_at vs j d lt = get_or-map (λ v. v.0.0) vs j d 0 lt
 
@@ -97,7 +97,7 @@ is_writer-at [] j d lt = absurd (omega (arith, lt))
 is_writer-at (v ∷ vs) zero d lt = let e : eqb v.0.0 v.0.0 ≡ true = eq-eqb v.0.0 v.0.0 refl in rw e refl
 is_writer-at (v ∷ vs) (suc j) d lt = or_right (eqb v.0.0 (get_or vs j d).0.0) _ (is_writer-at vs j d (omega (arith, lt)))
 
--- a search from the last place down, by a relation between a writer and what it is answered, of which p is the answer
+-- a search backward from the last place, by a relation between a writer and its answer, if the answer is always p
 pub last_where_is : (vs : List Version) (p : ℕ → Bool) (Answers : Txn → Bool → Type 0) → ((u : Txn) (b : Bool) → IsTrue (is_writer vs u.0) → Answers u b → b ≡ p u.0)
     → (from : ℕ) (r : Option ℕ) → MatchOption r ((j : ℕ) (d : Version) → from ≤ j → j < length vs → Answers (get_or vs j d).0 false)
     (λ i. (from ≤ i) × (i < length vs) × ((d : Version) → Answers (get_or vs i d).0 true) × ((j : ℕ) (d : Version) → i < j → j < length vs → Answers (get_or vs j d).0 false))
@@ -140,7 +140,7 @@ first_of_writer vs t r h = first_place_is (λ w. eqb w t.0) (writers_of vs) r (p
       λ j le lt. let low : j < length vs = omega (arith, lt, h.0) in ap (λ w. eqb w t.0) (writer_at vs j none low) ∙ other _ (h.2 j none lt),
     )
 
--- where no version of t is found, t is none of the writers
+-- if no version of t is found, t is not a writer
 pub is_writer-none : (vs : List Version) (t : ℕ) → None ≡ first_place (λ w. eqb w t) (writers_of vs) → is_writer vs t ≡ false
 is_writer-none vs t e = none (writers_of vs) (subst (λ o. IsFirst (λ w. eqb w t) (writers_of vs) o) (sym e) (first_place-found (λ w. eqb w t) (writers_of vs)))
   where
@@ -148,18 +148,18 @@ is_writer-none vs t e = none (writers_of vs) (subst (λ o. IsFirst (λ w. eqb w 
     none [] h = refl
     none (w ∷ ws) h = or_from _ _ (h 0 (omega arith) (omega arith)) (none ws (λ j le lt. h (suc j) (omega arith) (omega (arith, lt))))
 
--- what is found of t, and of others where t has none, is the place of either
+-- the search returns the place of t's version, or if t has none, the last place that passes
 pub own_is : (vs : List Version) (t i : ℕ) (p : ℕ → Bool) → Some i ≡ first_place (λ w. eqb w t) (writers_of vs) → Some i ≡ own_or_last t p (writers_of vs)
 own_is vs t i p e = ap (λ (o : Option ℕ). elim o [ None ↦ last_place p (writers_of vs) | Some i ↦ Some i ]) e
 
 pub other_is : (vs : List Version) (t : ℕ) (r : Option ℕ) (p : ℕ → Bool) → None ≡ first_place (λ w. eqb w t) (writers_of vs) → r ≡ last_place p (writers_of vs) → r ≡ own_or_last t p (writers_of vs)
 other_is vs t r p e last = last ∙ ap (λ (o : Option ℕ). elim o [ None ↦ last_place p (writers_of vs) | Some i ↦ Some i ]) e
 
--- the place of a writer's version is one of the chain
+-- the place of a writer's version is in the chain
 pub own_within : (vs : List Version) (t i : ℕ) → Some i ≡ first_place (λ w. eqb w t) (writers_of vs) → i < length vs
 own_within vs t i e = let found = subst (λ o. IsFirst (λ w. eqb w t) (writers_of vs) o) (sym e) (first_place-found (λ w. eqb w t) (writers_of vs)) in omega (arith, found.0, length-writers vs)
 
--- a place that was found is that of t, or else t has none and it is the last that passes
+-- the place that was found is that of t's version, or t has none and it is the last that passes
 pub own_or_last_cases : (t : ℕ) (p : ℕ → Bool) (ws : List ℕ) (r : Option ℕ) → r ≡ own_or_last t p ws
     → ((r ≡ first_place (λ w. eqb w t) ws) × (r ≡ None → ⊥)) ⊎ ((None ≡ first_place (λ w. eqb w t) ws) × (r ≡ last_place p ws))
 own_or_last_cases t p ws r e = go (first_place (λ w. eqb w t) ws) refl e

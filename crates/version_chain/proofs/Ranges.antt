@@ -1,4 +1,4 @@
--- The range of a cell in a sorted list: what it is found by, what its versions are, and what edits at it do.
+-- The range of a cell in a sorted list: how it is found, the versions in it, and the effect of edits.
 use Rattle.std.proofs.Common.{◌≡◌, ℕ, zero, suc, ◌+◌, ◌-◌, ◌≤◌, ◌<◌, Bool, true, false, not, cond, eqb, List, [], ◌∷◌, ◌++◌, length, take, drop, map, get_or, set, refl, sym, ap, subst, ◌∙◌, arith, inl, inr}
 use Rattle.std.specs.declared.cmp.Ordering.{Ordering}
 use Rattle.std.specs.declared.cmp.Ordering.TheVariants.{Less, Equal, Greater}
@@ -22,7 +22,7 @@ use Rattle.version_chain.specs.Stored.{version, of_cell, IsSortedByCell, IsRange
 use Rattle.version_chain.proofs.Cells.{cells_total, cells_exact, same_cell-itself, same_cell-exact, same_cell-less, same_cell-greater, same_cell-other}
 use Rattle.version_chain.proofs.Middle.{Says, middle, middle_insert, middle_set, filter_insert_none, filter_set_none}
 
--- the tests by which a range is found
+-- the tests that find a range
 abbrev pub is_before : Cell → Stored → Bool
 is_before x v = is_lt (cell_cmp v.cell x)
 
@@ -126,7 +126,7 @@ map_set_value [] i v d e = refl
 map_set_value (m ∷ ms) zero v d e = ap (λ (t : Txn). (t, v.value) ∷ map version ms) e
 map_set_value (m ∷ ms) (suc i) v d e = ap (λ l. version m ∷ l) (map_set_value ms i v d e)
 
--- an edit elsewhere than at the versions of y
+-- an edit of another cell does not change the versions of y
 pub of_cell-insert_other : (y : Cell) (vs : List Stored) (k : ℕ) (v : Stored) → same_cell y v.cell ≡ false → of_cell y (insert vs k v) ≡ of_cell y vs
 of_cell-insert_other y vs k v other = ap (map version) (filter_insert_none (is_of y) vs k v (same_cell-other y v.cell other))
 
@@ -178,7 +178,7 @@ module _ (vs : List Stored) (x : Cell) (start len : ℕ) (r : IsRange vs x start
       let at : get_or (drop len (drop start vs)) j d ≡ get_or vs (start + (len + j)) d = get_or-drop len (drop start vs) j d ∙ get_or-drop start vs (len + j) d in
       ap (is_of x) at ∙ same_cell-greater _ x (r.after (start + (len + j)) d (omega arith) (omega (arith, lt, length-drop len (drop start vs), length-drop start vs, r.within)))
 
-  -- its versions
+  -- the range has exactly the cell's versions
   pub of_cell-range : map version (take len (drop start vs)) ≡ of_cell x vs
   unfolding ours
   of_cell-range = ap (map version) (sym (middle (is_of x) front ours back before here after)) ∙ ap (of_cell x) parts
@@ -209,7 +209,7 @@ module _ (vs : List Stored) (x : Cell) (start len : ℕ) (r : IsRange vs x start
       ∙ (ap (map version) (middle_set (is_of x) front ours back before here after i v on (omega (arith, within, ours_len)))
       ∙ (map_set_value ours i v d (same ∙ ap (λ (w : Stored). w.writer) (sym (ours_at i d within))) ∙ ap (set_value i v.value) of_cell-range)))
 
-  -- the order is kept
+  -- an edit keeps the order
   not_above : (j : ℕ) (d : Stored) → j < start + len → is_lt (cell_cmp x (get_or vs j d).cell) ≡ false
   not_above j d lt = elim (cases_lt j start) [
     | inl low ↦ ap is_lt (cells_total.antisymm x _ ∙ ap ordering_reverse (r.before j d low))
@@ -266,7 +266,7 @@ sorted-set vs k v e within same sorted j d zero_le lt =
 pub sorted-filter : (p : Stored → Bool) (vs : List Stored) → IsSortedByCell vs → IsSortedByCell (filter p vs)
 sorted-filter p vs sorted = IsSortedBy-filter _ (ranks_by cells_total (λ (v : Stored). v.cell)) p vs sorted
 
--- a writer's versions taken out of the whole list are taken out of each cell's
+-- removing a writer's versions from the whole list removes them from each cell's versions
 pub of_cell-filter : (x : Cell) (t : ℕ) (vs : List Stored) → of_cell x (filter (λ v. not (eqb v.writer.0 t)) vs) ≡ without t (of_cell x vs)
 of_cell-filter x t [] = refl
 of_cell-filter x t (v ∷ vs) = step (eqb v.writer.0 t) (is_of x v) refl refl (of_cell-filter x t vs)
@@ -279,6 +279,6 @@ of_cell-filter x t (v ∷ vs) = step (eqb v.writer.0 t) (is_of x v) refl refl (o
     step false true e f ih = rw (e, f) (ap (λ l. version v ∷ l) ih)
     step false false e f ih = rw f ih
 
--- a version of a part of the list, as a version of the chain
+-- a version of the range is the version of the chain at the same place
 pub version_at : (ms : List Stored) (j : ℕ) (m : Stored) (d : Version) → j < length ms → get_or (map version ms) j d ≡ version (get_or ms j m)
 version_at ms j m d lt = get_or-map version ms j m d lt

@@ -8,7 +8,7 @@ use Rattle.teb_laws.proofs.Nodes.{meets_parts}
 use Rattle.phase_api.specs.FactsView.{setup_of, events_of}
 use Rattle.access_conflicts.proofs.is_in_the_way.Goals as goal
 
--- nobody meets itself
+-- a transaction does not meet itself
 apart : (S : Setup) (H : List Event) (n t u : ℕ) → eqb u t ≡ true → meets S H n t u ≡ false
 apart S H n t u e = elim (cases_Bool (meets S H n t u)) [
   | inl m ↦ absurd ((meets_parts S H n t u m).2 (ap (λ (k : ℕ). side S H n k) (sym (eqb-true u t e))))

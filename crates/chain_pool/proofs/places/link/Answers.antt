@@ -7,14 +7,14 @@ use Rattle.chain_pool.specs.Places.{blank, slot_of, slot_at}
 use Rattle.chain_pool.proofs.Slots.{chosen, passed}
 use Rattle.chain_pool.proofs.places.link.Goals as goal
 
--- the slots after a place is written
+-- the slots after a place is overwritten
 filled : (ps : List Place) (k r : ℕ) (x : Place) → k < length ps → slot_at (set ps k x) r ≡ (if r == k then slot_of x else slot_at ps r)
 filled ps k r x within = elim (cases_eq r k) [
   | inl e ↦ ap slot_of (get_or-set_at ps k r x blank e within) ∙ sym (chosen r k _ _ e)
   | inr ne ↦ ap slot_of (get_or-set_other ps k r x blank ne) ∙ sym (passed r k _ _ ne)
 ]
 
--- the same where the slot of the place is as it was
+-- the same if the slot of the place is unchanged
 kept : (ps : List Place) (n k r : ℕ) (x : Place) → length ps ≡ n → k < n → slot_of x ≡ slot_at ps k → slot_at (set ps k x) r ≡ slot_at ps r
 kept ps n k r x len within same = elim (cases_eq r k) [
   | inl e ↦ ap slot_of (get_or-set_at ps k r x blank e (omega (arith, len, within))) ∙ (same ∙ ap (slot_at ps) (sym e))

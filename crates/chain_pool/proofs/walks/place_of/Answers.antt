@@ -6,7 +6,7 @@ use Rattle.chain_pool.specs.Places.{previous_at}
 use Rattle.chain_pool.proofs.Rings.{steps-first}
 use Rattle.chain_pool.proofs.walks.place_of.Goals as goal
 
--- steps from the last place are one more from the first
+-- n steps from the last place are n + 1 steps from the first
 from_last : (ps : List Place) (chain : Chain) (i : ℕ) → i < chain.head.len → (0 < chain.head.len → chain.last ≡ previous_at ps chain.head.first) → (n : ℕ)
     → steps (previous_at ps) n chain.last ≡ steps (previous_at ps) (suc n) chain.head.first
 from_last ps chain i within ends n = ap (steps (previous_at ps) n) (ends (omega (arith, within))) ∙ steps-first (previous_at ps) n chain.head.first

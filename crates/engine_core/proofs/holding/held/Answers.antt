@@ -14,7 +14,7 @@ use Rattle.engine_core.proofs.HeldTxns.{held_txn-latest}
 use Rattle.engine_core.proofs.HeldPhases.{running_phase, ready_phase, live_aborted}
 use Rattle.engine_core.proofs.holding.held.Goals as goal
 
--- what a session holds, by whether that which it began last is live
+-- a session holds the transaction that it began last if and only if that is live
 held_by : (S : Setup) (H : List Event) (s : Session) (t : Txn) (b : Bool) → Lawful S H → t ≡ latest_txn H s.0 → is_live H t.0 ≡ b → held_txn H s ≡ cond b (Some t) None
 held_by S H s t b l e q =
     held_txn-latest S H s l

@@ -16,7 +16,7 @@ use Rattle.engine_core.specs.Views.{store_in, events_in}
 use Rattle.engine_core.proofs.Along.{within}
 use Rattle.engine_core.proofs.put_places.asked_place.Goals as goal
 
--- what holds of none of a list
+-- a test that no element passes fails for each element
 none_of : (p : ℕ → Bool) (ns : List ℕ) (n : ℕ) → list_any p ns ≡ false → among n ns ≡ true → p n ≡ false
 none_of p [] n h i = absurd (cc)
 none_of p (m ∷ ms) n h i =

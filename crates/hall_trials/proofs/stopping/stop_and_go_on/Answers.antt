@@ -8,7 +8,7 @@ use Rattle.script_walk.specs.declared.walker.Walker.{Walker}
 use Rattle.session_tasks.specs.Walks.{IsUnderWay}
 use Rattle.hall_trials.proofs.stopping.stop_and_go_on.Goals as goal
 
--- a session that has asked nothing stands at its first line
+-- a session that has asked nothing is at its first line
 begins : (lines : List Line) (entries : List Entry) (w : Walker) → entries ≡ [] → state_of lines w ≡ at_first (requests_on lines) → IsUnderWay lines entries w
 unfolding WayFrom state_after
 begins lines entries w none first = record {

@@ -1,4 +1,4 @@
--- What was ahead is still ahead, and no fault is told that did not come.
+-- No byte ahead is lost, and no fault is reported that did not occur.
 use Rattle.std.proofs.Common.{[], ◌≡◌, ◌-◌, length}
 use Rattle.std.specs.Io.KnownBytes.{Consumes}
 use Rattle.line_reader.specs.Lines.{ahead}

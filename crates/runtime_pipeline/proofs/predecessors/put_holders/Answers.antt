@@ -11,7 +11,7 @@ use Rattle.runtime_pipeline.proofs.ListEdits.{IsPutting, edited, putting_in, put
 use Rattle.runtime_pipeline.proofs.predecessors.put_holders.Goals as goal
 use Rattle.runtime_pipeline.proofs.predecessors.put_holders.Goals.{then-is_in_the_way, else-is_in_the_way}
 
--- the room that a value takes, where it is put in
+-- a value takes at most one place
 one_more : (a b : ℕ) (added : Bool) → a ≡ b + cond added 1 0 → a ≤ b + 1
 one_more a b true e = omega arith
 one_more a b false e = omega arith

@@ -1,4 +1,4 @@
--- Sessions 1 to the last one were ended if they held a transaction.
+-- Each of the sessions 1 to the current one that held a transaction was ended.
 use Rattle.std.proofs.Common.{ℕ, ◌+◌, ◌≡◌, ◌≤◌}
 use Rattle.shell_runner.specs.States.{IsReady}
 use Rattle.shell_runner.proofs.Ending.{EndsSoFar}

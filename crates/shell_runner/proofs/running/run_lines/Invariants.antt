@@ -1,4 +1,4 @@
--- The steps so far have led here, and no fault is told that did not come.
+-- The steps so far lead to the current state, and no fault is reported that did not occur.
 use Rattle.std.proofs.Common.{◌≡◌, ◌≢◌, ℕ, ◌+◌, ◌≤◌}
 use Rattle.line_reader.specs.Lines.{ahead}
 use Rattle.shell_runner.specs.States.{IsReady}

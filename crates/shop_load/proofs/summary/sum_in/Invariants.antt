@@ -2,7 +2,7 @@ use Rattle.std.proofs.Common.{◌≡◌, ◌*◌, ◌^◌, ◌+ℤ◌, ◌≤ℤ
 use Rattle.shop_load.specs.Summaries.{sum_in}
 use Rattle.shop_load.proofs.summary.sum_in.Given as goal
 
--- what is left is added to the sum so far, which so many values of 64 bits made
+-- the sum so far and that of the remaining rows make the whole sum; the sum so far is within the range of as many 64-bit values
 abbrev pub invariant-loop-row : goal.invariant-loop-row
 invariant-loop-row l = record {
   sum : (l.sum +ℤ sum_in l.table.0 (drop l.row-index l.rows)) ≡ sum_in l.table.0 l.rows;

@@ -1,4 +1,4 @@
--- What was written so far is a prefix of the bytes.
+-- The bytes that were written so far are a prefix of all bytes.
 use Rattle.std.proofs.Common.{◌≤◌, ◌-◌, length, take}
 use Rattle.std.specs.Io.KnownBytes.{Appends}
 use Rattle.teb_io.proofs.sink.write_whole.Given as goal

@@ -4,7 +4,7 @@ use Rattle.std.proofs.KnownBytes.{Consumes-trans}
 use Rattle.teb_io.proofs.Taking.{taken_up_to}
 use Rattle.teb_io.proofs.source.read_all.Goals as goal
 
--- the piece that found no room was taken too
+-- the piece for which there was no memory was taken from the source too
 pub returns-in_err-extend_from_slice-clause-memory : goal.returns-in_err-extend_from_slice-clause-memory
 returns-in_err-extend_from_slice-clause-memory g c memory =
     let count = c.in_ok-count.count in

@@ -1,4 +1,4 @@
--- The bytes so far are those that were taken.
+-- The bytes so far are those that were taken from the source.
 use Rattle.std.proofs.Common.{◌≡◌, ◌≤◌, ◌+◌, ◌-◌, length}
 use Rattle.std.specs.Io.KnownBytes.{Consumes}
 use Rattle.teb_io.proofs.source.read_all.Given as goal

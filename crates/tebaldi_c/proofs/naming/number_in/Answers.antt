@@ -8,7 +8,7 @@ use Rattle.teb_names.specs.Names.{number_of}
 use Rattle.tebaldi_c.proofs.naming.number_in.Goals as goal
 use borrow.Author.Count.{below_more}
 
--- a name that differs from each of the first ones, if these are all, is not there
+-- if a name differs from all n first ones, and there are no others, it is not in the list
 none_has : (names : List (List ℕ)) (name : List ℕ) (n : ℕ) → length names ≤ n → ((k : ℕ) → k < n → bytes_eq name (get_or names k []) ≡ false) → number_of names name ≡ None
 none_has names name n all differ =
     let at : position_or_len (bytes_eq name) names ≡ length names = position_or_len_is (bytes_eq name) names (length names) [] (omega arith) (λ k low. differ k (omega arith))

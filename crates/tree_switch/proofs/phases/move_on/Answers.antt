@@ -3,7 +3,7 @@ use Rattle.std.proofs.lemmas.List.{set_at}
 use Rattle.engine_core.specs.EngineModel.{EngineModel}
 use Rattle.tree_switch.proofs.phases.move_on.Goals as goal
 
--- the last of a list replaced
+-- the last element of a list is replaced
 last_set : (xs ys : List EngineModel) (x y z : EngineModel) (n : ℕ) → ys ≡ xs ++ x ∷ [] → n ≡ length ys → y ≡ z → slice_set ys (n - 1) y ≡ xs ++ z ∷ []
 last_set xs ys x y z n e l s =
     let k : length xs ≡ n - 1 = omega (arith, l, ap length e, length-append xs (x ∷ [])) in

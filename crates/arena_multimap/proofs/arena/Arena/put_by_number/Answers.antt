@@ -5,7 +5,7 @@ use Rattle.arena_multimap.specs.Arenas.{list_at}
 use Rattle.arena_multimap.proofs.Segments.{less_room}
 use Rattle.arena_multimap.proofs.arena.Arena.put_by_number.Goals as goal
 
--- the place that was found is that in L
+-- the place that was found is a place in L
 found : {V : Type 0} (by : V → ℕ) (l L : List V) (m n : ℕ) (r : Result ℕ ℕ) → r ≡ place_of by l m → l ≡ L → m ≡ n → place_of by L n ≡ r
 found by l L m n r e same number = sym (e ∙ ap (λ (l : List _). place_of by l m) same ∙ ap (place_of by L) number)
 

@@ -7,7 +7,7 @@ use Rattle.arena_multimap.proofs.Segments.{less_room}
 use Rattle.arena_multimap.proofs.AllLists.{one_of_all, length-all_lists, edited_all}
 use Rattle.arena_multimap.proofs.numbered_lists.NumberedLists.put_by_number.Goals as goal
 
--- a value is put in a list that there is, as the contract sees it
+-- a value is put in an existing list, in the terms of the contract
 put_all : {V : Type 0} (a a' : Arena V) (s : Shown V) (by : V → ℕ) (v : V) (i k : ℕ) → all_lists a ≡ s.lists → i < length s.lists → k ≤ 1 → lists a' ≡ max (lists a) (i + k)
     → ((j : ℕ) → list_at a' j ≡ cond (eqb j i) (put_by by v (list_at a i)) (list_at a j)) → all_lists a' ≡ set s.lists i (put_by by v (list_in s.lists i))
 put_all a a' s by v i k shown within le count edit =

@@ -22,7 +22,7 @@ returns-clause-place g c p agrees =
     ∙ (c.last_in.ensures.place p (λ u b there answers. agrees u b (ap (λ (h : Head). is_writer (versions ps h) u.0) (sym is) ∙ there) answers)
     ∙ ap (λ (h : Head). unless_below c.args.from (last_place p (writers_of (versions ps h)))) is)
 
--- what holds of the place of a version that was found
+-- a property of the place of a version that was found
 at_place : (P : ℕ → Type 0) (r : Option Found) → IfSome r (λ v. P v.at) → IfSome (option_map (λ v. v.at) r) P
 at_place P None h = h
 at_place P (Some v) h = h

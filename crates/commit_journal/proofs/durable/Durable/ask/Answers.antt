@@ -8,7 +8,7 @@ use Rattle.commit_journal.proofs.Effects.{fault_adds_nothing, touches_none, make
 use Rattle.commit_journal.proofs.durable.Durable.ask.Given.{Over}
 use Rattle.commit_journal.proofs.durable.Durable.ask.Goals as goal
 
--- what the answer did to the store as it was before the call
+-- the effect of the answer, relative to the store before the call
 did : (g : Over) (c : goal.After-drop-body g)
     → Answered g.D.Disk.moment g.D.Disk.left_since g.D.Disk.safe g.D.Disk.faults g.D.Disk.tally c.args.self.now
     (kept_of c.answered.new.engine c.answered.new.journal) c.args.session c.args.request c.answered.result

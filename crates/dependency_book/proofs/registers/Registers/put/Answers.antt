@@ -4,13 +4,13 @@ use Rattle.teb_history.specs.Accesses.{wrote}
 use Rattle.dependency_book.proofs.Noted.{noted_put}
 use Rattle.dependency_book.proofs.registers.Registers.put.Goals as goal
 
--- nothing is added where the cell is put already
+-- nothing is added if the cell was put already
 kept : {V : Type 0} (p c : Bool) (xs ys : List V) → true ≡ p → xs ≡ cond (c && not p) ys xs
 kept true true xs ys e = refl
 kept true false xs ys e = refl
 kept false c xs ys e = absurd (let z : true ≡ false = e in cc)
 
--- and otherwise it is added
+-- otherwise it is added
 added : {V : Type 0} (p c : Bool) (xs ys : List V) → false ≡ p → cond c ys xs ≡ cond (c && not p) ys xs
 added false true xs ys e = refl
 added false false xs ys e = refl

@@ -6,7 +6,7 @@ use Rattle.teb_names.specs.declared.Txn.{Txn}
 use Rattle.engine_core.specs.Latest.{latest_txn}
 use Rattle.engine_core.proofs.latest_txns.LatestTxns.new.Goals as goal
 
--- whatever is listed is the transaction that the list is made of
+-- every element of a replicated list is the transaction that was replicated
 alike : (n : ℕ) (t : Txn) (s : ℕ) → get_or (replicate n t) s t ≡ t
 alike n t s = elim (cases_lt s n) [
   | inl l ↦ get_or-replicate n s t t l
