@@ -1,13 +1,13 @@
 -- Lawful and settled histories are recoverable.
 use Rattle.std.proofs.Common.{List, length, arith, lt-ltb, le_refl}
-use Rattle.teb_history.specs.declared.Event.{Event}
-use Rattle.teb_history.specs.Phases.{committed, done_at}
-use Rattle.teb_history.specs.Accesses.{read_from}
+use Rattle.teb_rules.specs.declared.history.Event.{Event}
+use Rattle.teb_rules.specs.history.Phases.{committed, done_at}
+use Rattle.teb_rules.specs.history.Accesses.{read_from}
 use Rattle.teb_rules.specs.Setup.{Setup}
-use Rattle.teb_laws.specs.TreeFacts.{TreeFacts}
-use Rattle.teb_laws.proofs.Answers.{Good}
-use Rattle.teb_laws.proofs.Positions.{upto_all}
-use Rattle.teb_laws.proofs.Assembly.{read_recoverable}
+use Rattle.teb_rules.specs.laws.TreeFacts.{TreeFacts}
+use Rattle.teb_rules.proofs.lemmas.laws.Answers.{Good}
+use Rattle.teb_rules.proofs.lemmas.laws.Positions.{upto_all}
+use Rattle.teb_rules.proofs.lemmas.laws.Assembly.{read_recoverable}
 use Rattle.std.proofs.lemmas.Bool.{ltb-true}
 use Rattle.abort_cascade.specs.Recoverable.{IsRecoverable}
 

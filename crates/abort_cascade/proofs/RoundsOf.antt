@@ -3,15 +3,15 @@ use Rattle.std.proofs.Common.{◌≡◌, ◌≢◌, ℕ, zero, suc, ◌+◌, ◌
 use Rattle.std.specs.List.{list_any}
 use Rattle.std.proofs.lemmas.List.{take_more}
 use Rattle.std.proofs.lemmas.Bool.{eqb-true, and_parts, both_ways, or_cases, ltb-true}
-use Rattle.teb_names.specs.declared.Txn.{Txn}
-use Rattle.teb_names.proofs.Bools.{and_true, and_false, eqb_swap}
-use Rattle.teb_history.specs.declared.Event.{Event}
-use Rattle.teb_history.specs.Phases.{txns, begun_count, begun, committed, aborted, unfinished}
-use Rattle.teb_history.specs.Accesses.{read_from}
+use Rattle.teb_rules.specs.declared.names.Txn.{Txn}
+use Rattle.teb_rules.proofs.lemmas.names.Bools.{and_true, and_false, eqb_swap}
+use Rattle.teb_rules.specs.declared.history.Event.{Event}
+use Rattle.teb_rules.specs.history.Phases.{txns, begun_count, begun, committed, aborted, unfinished}
+use Rattle.teb_rules.specs.history.Accesses.{read_from}
 use Rattle.teb_rules.specs.Cascade.{cascade, blamed, txn}
 use Rattle.teb_rules.specs.Serializes.{In}
-use Rattle.teb_laws.proofs.Serial.{filter-In, numbers-In}
-use Rattle.teb_laws.proofs.Cascades.{falls, numbers_pos, cascade-In}
+use Rattle.teb_rules.proofs.lemmas.laws.Serial.{filter-In, numbers-In}
+use Rattle.teb_rules.proofs.lemmas.laws.Cascades.{falls, numbers_pos, cascade-In}
 use Rattle.dependency_book.specs.Dependencies.{all_sources, unfinished_txns}
 use Rattle.dependency_book.specs.Books.{Lists, BookOf, sources_in}
 use Rattle.dependency_book.proofs.OrderlyHistories.{unfinished_is, unfinished_parts, known}
@@ -20,9 +20,9 @@ use Rattle.abort_cascade.specs.Recoverable.{IsRecoverable}
 use Rattle.abort_cascade.specs.Rounds.{is_member, culprit, with_culprit, round_of, blames}
 use Rattle.dependency_book.proofs.Sources.{has_source, sources_ascend, sources_standing, find_least, IsLeast}
 use Rattle.dependency_book.proofs.Positive.{orderly_begun, begun_pos}
-use Rattle.teb_history.proofs.LeastNumbers.{numbers_find}
+use Rattle.teb_rules.proofs.lemmas.history.LeastNumbers.{numbers_find}
 use Rattle.abort_cascade.proofs.Stages.{stage, stage_none, stage_next, stage_length, stage_last, stage_step}
-use Rattle.teb_laws.proofs.Lists.{list_any_In}
+use Rattle.teb_rules.proofs.lemmas.laws.Lists.{list_any_In}
 
 -- a round visits the transactions one after another
 module _ (b : Lists) (t : ℕ) (fell : List (Txn × Txn)) where

@@ -1,10 +1,10 @@
 -- The rounds of a cascade: the transactions that have fallen after k of them.
 use Rattle.std.proofs.Common.{◌≡◌, ◌⊎◌, ℕ, zero, suc, ◌+◌, ◌-◌, ◌<◌, ◌≤◌, Bool, true, false, List, [], length, filter, refl, sym, ◌∙◌, ap, subst, inl, inr, arith}
 use Rattle.std.proofs.lemmas.Bool.{cases_lt}
-use Rattle.teb_history.specs.declared.Event.{Event}
-use Rattle.teb_history.specs.Phases.{txns, begun_count}
+use Rattle.teb_rules.specs.declared.history.Event.{Event}
+use Rattle.teb_rules.specs.history.Phases.{txns, begun_count}
 use Rattle.teb_rules.specs.Cascade.{fallen, cascade}
-use Rattle.teb_laws.proofs.Cascades.{falls, filter_count, fallen_step, falls_more, fallen_fixed, widened, no_members, cascade_closed}
+use Rattle.teb_rules.proofs.lemmas.laws.Cascades.{falls, filter_count, fallen_step, falls_more, fallen_fixed, widened, no_members, cascade_closed}
 
 -- whether u has fallen after k rounds
 pub falls_by : List Event → ℕ → ℕ → ℕ → Bool

@@ -1,8 +1,8 @@
 -- One round: the unfinished transactions that read from t or from one that fell in the round before.
 use Rattle.std.specs.Prelude.{ℕ, Bool, cond, ◌||◌, eqb, List, [], ◌∷◌, find, map, Option, Some, None}
 use Rattle.std.specs.List.{list_any}
-use Rattle.teb_names.specs.declared.Txn.{Txn}
-use Rattle.teb_history.specs.declared.Event.{Event}
+use Rattle.teb_rules.specs.declared.names.Txn.{Txn}
+use Rattle.teb_rules.specs.declared.history.Event.{Event}
 use Rattle.teb_rules.specs.Cascade.{cascade, blamed, txn}
 use Rattle.dependency_book.specs.Books.{Lists, sources_in}
 

@@ -1,7 +1,7 @@
 //! The cascade: rounds over the unfinished transactions, until a round adds none.
 
 ghost use Rattle.std.specs.Prelude.{◌≡◌, ◌≤◌, ◌||◌, eqb, find, length, IsTrue};
-ghost use Rattle.teb_history.specs.Phases.{unfinished};
+ghost use Rattle.teb_rules.specs.history.Phases.{unfinished};
 ghost use Rattle.teb_rules.specs.Cascade.{cascade};
 ghost use Rattle.phase_api.specs.FactsView.{events_of};
 ghost use Rattle.dependency_book.specs.Books.{BookOf};
@@ -11,7 +11,7 @@ ghost use Rattle.abort_cascade.specs.Rounds.{is_member, culprit, round_of, blame
 use crate::list::{CascadeList, MOST_FALLEN};
 use dependency_book::Book;
 use phase_api::Facts;
-use teb_names::Txn;
+use teb_rules::names::Txn;
 
 /// Returns the transactions that fall with t, in ascending number and without t: each that read from t or from one that falls, with the
 /// least one that it read from and that is t or falls.

@@ -16,7 +16,7 @@
 //! **What is proved.** The list is the cascade of `Cascade` in `teb_rules`, in ascending number, with each one's cause (`blames` of
 //! `specs/Rounds`).
 //!
-//! **Not claimed**: that anything is aborted; the engine writes the events. That the cascade is short is a law of `teb_laws`, which
+//! **Not claimed**: that anything is aborted; the engine writes the events. That the cascade is short is a law of `teb_rules::laws`, which
 //! the caller gives as the premise `few`.
 #![tactic(auto)]
 

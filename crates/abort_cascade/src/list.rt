@@ -4,7 +4,7 @@ ghost use Rattle.std.specs.Prelude.{◌≡◌, ◌<◌, ◌++◌, ◌∷◌, [],
 ghost use Rattle.abort_cascade.specs.Rounds.{is_member};
 
 use std::marker::Model;
-use teb_names::{SESSIONS, Txn};
+use teb_rules::names::{SESSIONS, Txn};
 
 /// At most this many fall with another: each session holds at most one unfinished transaction.
 pub(crate) const MOST_FALLEN: usize = SESSIONS as usize;
@@ -18,7 +18,7 @@ pub struct CascadeList {
 
 impl Model for CascadeList {
     ghost use Rattle.std.specs.Prelude.{List, ◌≡◌, ◌≤◌, take, length};
-    ghost use Rattle.teb_names.specs.declared.Txn.{Txn};
+    ghost use Rattle.teb_rules.specs.declared.names.Txn.{Txn};
     ghost use Rattle.abort_cascade.specs.declared.list.TheConstants.{MOST_FALLEN};
 
     ghost Value = { List (Txn × Txn) };

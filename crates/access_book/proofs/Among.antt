@@ -1,10 +1,10 @@
 -- Membership in a list of transactions, and how an edit by number changes it.
 use Rattle.std.proofs.Common.{◌≡◌, ℕ, Bool, true, false, cond, not, ltb, eqb, ◌&&◌, ◌||◌, List, [], ◌∷◌, filter, refl, sym, ◌∙◌, ap, arith}
 use Rattle.std.proofs.lemmas.Bool.{both_ways, eqb-true, eq-eqb, ne_eqb}
-use Rattle.teb_names.specs.declared.Txn.{Txn}
-use Rattle.teb_names.proofs.Bools.{and_false, or_swap}
-use Rattle.teb_history.specs.Ascending.{put_by}
-use Rattle.teb_history.specs.Live.{number_of}
+use Rattle.teb_rules.specs.declared.names.Txn.{Txn}
+use Rattle.teb_rules.proofs.lemmas.names.Bools.{and_false, or_swap}
+use Rattle.teb_rules.specs.history.Ascending.{put_by}
+use Rattle.teb_rules.specs.history.Live.{number_of}
 use Rattle.access_book.specs.Books.{is_among}
 
 or_later : (a b c : Bool) → (a || (b || c)) ≡ ((a || b) || c)

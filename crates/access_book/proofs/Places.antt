@@ -3,14 +3,14 @@ use Rattle.std.proofs.Common.{◌≡◌, ℕ, suc, zero, ◌<◌, Bool, true, fa
 use Rattle.std.specs.List.{IsDistinct, AllByRecursion}
 use Rattle.std.proofs.lemmas.Bool.{cases_lt}
 use Rattle.std.proofs.lemmas.List.{get_or_past}
-use Rattle.teb_names.specs.declared.Cell.{Cell}
-use Rattle.teb_names.specs.declared.Txn.{Txn}
-use Rattle.teb_names.specs.Cells.{same_cell}
-use Rattle.teb_history.specs.Ascending.{IsAscendingBy, put_by}
-use Rattle.teb_history.specs.Live.{number_of}
-use Rattle.teb_history.proofs.AscendingLists.{ascending-put}
+use Rattle.teb_rules.specs.declared.names.Cell.{Cell}
+use Rattle.teb_rules.specs.declared.names.Txn.{Txn}
+use Rattle.teb_rules.specs.names.Cells.{same_cell}
+use Rattle.teb_rules.specs.history.Ascending.{IsAscendingBy, put_by}
+use Rattle.teb_rules.specs.history.Live.{number_of}
+use Rattle.teb_rules.proofs.lemmas.history.AscendingLists.{ascending-put}
 use Rattle.cell_index.specs.Cells.{place_in, with_cell, with_place}
-use Rattle.teb_names.proofs.SameCells.{same_cell-true}
+use Rattle.teb_rules.proofs.lemmas.names.SameCells.{same_cell-true}
 use Rattle.cell_index.proofs.Places.{place_back}
 use Rattle.cell_index.proofs.ListEdits.{placed, placed_list, placed_edited}
 use Rattle.arena_multimap.specs.NumberedLists.{list_in}

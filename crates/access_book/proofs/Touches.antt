@@ -8,10 +8,10 @@ use Rattle.std.proofs.Math.Seq.{drop-cons}
 use Rattle.std.proofs.lemmas.List.Folds.{list_any-append}
 use Rattle.std.proofs.lemmas.List.Sums.{sum_by-append, sum_by-cons}
 use Rattle.std.proofs.Math.ListN.{get_or-append, get_or-map}
-use Rattle.teb_names.specs.declared.Cell.{Cell}
-use Rattle.teb_names.specs.Cells.{same_cell}
+use Rattle.teb_rules.specs.declared.names.Cell.{Cell}
+use Rattle.teb_rules.specs.names.Cells.{same_cell}
 use Rattle.cell_index.specs.Cells.{place_in, with_cell}
-use Rattle.teb_names.proofs.SameCells.{same_cell-true}
+use Rattle.teb_rules.proofs.lemmas.names.SameCells.{same_cell-true}
 use Rattle.cell_index.proofs.Places.{decided, place_tells, put_place, put_length}
 use Rattle.cell_index.proofs.Lists.{set_tells, with_empty}
 use Rattle.cell_index.proofs.ListEdits.{distinct-with_cell}

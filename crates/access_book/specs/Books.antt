@@ -1,10 +1,10 @@
 -- What contracts see of a book of accesses.
 use Rattle.std.specs.Prelude.{◌≡◌, ℕ, zero, suc, Bool, eqb, List, [], ◌∷◌, MatchOption, Option}
 use Rattle.std.specs.List.{list_any}
-use Rattle.teb_names.specs.declared.Cell.{Cell}
-use Rattle.teb_names.specs.declared.Txn.{Txn}
-use Rattle.teb_history.specs.Ascending.{IsAscendingBy}
-use Rattle.teb_history.specs.Live.{number_of}
+use Rattle.teb_rules.specs.declared.names.Cell.{Cell}
+use Rattle.teb_rules.specs.declared.names.Txn.{Txn}
+use Rattle.teb_rules.specs.history.Ascending.{IsAscendingBy}
+use Rattle.teb_rules.specs.history.Live.{number_of}
 use Rattle.cell_index.specs.Lists.{list_for}
 use Rattle.arena_multimap.specs.NumberedLists.{list_in}
 use Rattle.access_book.specs.declared.accesses.Access.{Access}

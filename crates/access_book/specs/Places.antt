@@ -1,9 +1,9 @@
 -- How a book holds what contracts see of it: each cell has a place, the accessors of a cell have the list of that place, and an access holds it.
 use Rattle.std.specs.Prelude.{◌≡◌, ◌≤◌, ◌<◌, ◌+◌, ◌*◌, ◌^◌, ℕ, Bool, true, false, eqb, List, length, map, reverse, get_or}
 use Rattle.std.specs.List.{list_any, count_by, AllByRecursion, IsDistinct}
-use Rattle.teb_names.specs.declared.Cell.{Cell}
-use Rattle.teb_names.specs.declared.Txn.{Txn}
-use Rattle.teb_names.specs.Cells.{same_cell}
+use Rattle.teb_rules.specs.declared.names.Cell.{Cell}
+use Rattle.teb_rules.specs.declared.names.Txn.{Txn}
+use Rattle.teb_rules.specs.names.Cells.{same_cell}
 use Rattle.cell_index.specs.Cells.{Shown as Index}
 use Rattle.arena_multimap.specs.NumberedLists.{Shown as Numbered, list_in}
 use Rattle.access_book.specs.declared.accesses.Touch.{Touch}

@@ -2,7 +2,7 @@
 
 use crate::book::AccessBook;
 use std::marker::Model;
-use teb_names::Txn;
+use teb_rules::names::Txn;
 
 /// An access of a transaction, and the transactions that have accessed the same cell in the other way.
 #[derive(Clone, Copy)]

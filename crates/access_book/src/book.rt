@@ -1,11 +1,11 @@
 //! The book: what each access, commit and abort adds or removes, and the lists that it lends.
 
 ghost use Rattle.std.specs.Prelude.{◌≡◌, ◌<◌, ◌≤◌, ◌+◌, ◌∷◌, ◌&&◌, ◌||◌, ℕ, length, not, eqb, cond, OnOk};
-ghost use Rattle.teb_names.specs.declared.Cell.{Cell};
-ghost use Rattle.teb_names.specs.Cells.{same_cell};
+ghost use Rattle.teb_rules.specs.declared.names.Cell.{Cell};
+ghost use Rattle.teb_rules.specs.names.Cells.{same_cell};
 ghost use Rattle.access_book.specs.Touched.{Reads, Puts, any_reads, any_puts, puts_among};
-ghost use Rattle.teb_history.specs.Ascending.{IsAscendingBy};
-ghost use Rattle.teb_history.specs.Live.{number_of};
+ghost use Rattle.teb_rules.specs.history.Ascending.{IsAscendingBy};
+ghost use Rattle.teb_rules.specs.history.Live.{number_of};
 ghost use Rattle.cell_index.specs.Cells.{place_in, with_cell, with_place};
 ghost use Rattle.arena_multimap.specs.NumberedLists.{list_in};
 ghost use Rattle.access_book.specs.Books.{is_among, is_accessor, readers_of, writers_of, committed_of, touched_of, AreFiled, AreKept, IsAccess, IsEmpty, IsKept};
@@ -16,7 +16,7 @@ use arena_multimap::NumberedLists;
 use cell_index::CellIndex;
 use std::alloc::{AllocError, Global};
 use std::marker::Model;
-use teb_names::{Cell, Txn};
+use teb_rules::names::{Cell, Txn};
 
 /// Room is made for at least this many events, so that not every `reserve` goes through all lists.
 const AHEAD: usize = 256;

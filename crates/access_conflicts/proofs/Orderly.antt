@@ -1,17 +1,17 @@
 -- An orderly history stays orderly, event by event.
 use Rattle.std.proofs.Common.{◌≡◌, ℕ, suc, ◌<◌, ◌≤◌, Bool, true, false, cond, ◌||◌, eqb, List, [], ◌∷◌, refl, sym, ◌∙◌, ap, subst, arith, inl, inr, IsTrue}
 use Rattle.std.proofs.lemmas.Bool.{cases_Bool, or_cases, and_parts, or_right, both_ways, eqb-true}
-use Rattle.teb_names.specs.declared.Cell.{Cell}
-use Rattle.teb_names.specs.declared.Spot.{Spot}
-use Rattle.teb_history.specs.declared.Event.{Event}
-use Rattle.teb_history.specs.declared.Event.TheVariants.{Began, Got, Put, Ready, Done, Gone, Told}
-use Rattle.teb_history.specs.Phases.{is_began, began_at, begun, begun_count, unfinished, spot_of, kind_of}
-use Rattle.teb_history.specs.Accesses.{is_put, is_got, put_at, got_at, wrote, got}
-use Rattle.teb_history.proofs.Any.{came_any}
+use Rattle.teb_rules.specs.declared.names.Cell.{Cell}
+use Rattle.teb_rules.specs.declared.names.Spot.{Spot}
+use Rattle.teb_rules.specs.declared.history.Event.{Event}
+use Rattle.teb_rules.specs.declared.history.Event.TheVariants.{Began, Got, Put, Ready, Done, Gone, Told}
+use Rattle.teb_rules.specs.history.Phases.{is_began, began_at, begun, begun_count, unfinished, spot_of, kind_of}
+use Rattle.teb_rules.specs.history.Accesses.{is_put, is_got, put_at, got_at, wrote, got}
+use Rattle.teb_rules.proofs.lemmas.history.Any.{came_any}
 use Rattle.teb_rules.specs.Setup.{Setup}
 use Rattle.phase_api.specs.FactsView.{IsOrderly}
 use Rattle.phase_api.specs.Calls.{MayNote}
-use Rattle.teb_history.proofs.Newest.{begun-cons, wrote-cons, got-cons}
+use Rattle.teb_rules.proofs.lemmas.history.Newest.{begun-cons, wrote-cons, got-cons}
 
 pub unfinished_begun : (H : List Event) (u : ℕ) → IsTrue (unfinished H u) → IsTrue (begun H u)
 unfolding unfinished

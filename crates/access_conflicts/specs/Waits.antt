@@ -1,6 +1,6 @@
 -- A transaction that was found, and a wait for it.
 use Rattle.std.specs.Prelude.{ℕ, Option, Some, None}
-use Rattle.teb_names.specs.declared.Txn.{Txn}
+use Rattle.teb_rules.specs.declared.names.Txn.{Txn}
 use Rattle.teb_rules.specs.declared.Verdict.{Verdict}
 use Rattle.teb_rules.specs.declared.Verdict.TheVariants.{Go, Wait}
 

@@ -1,7 +1,7 @@
 //! The register of a node.
 
 ghost use Rattle.std.specs.Prelude.{◌≡◌, ◌<◌, ◌≤◌, ◌+◌, [], ◌∷◌, ◌++◌, List, drop, OnOk};
-ghost use Rattle.teb_history.specs.declared.Event.{Event};
+ghost use Rattle.teb_rules.specs.declared.history.Event.{Event};
 ghost use Rattle.teb_rules.specs.Setup.{Setup};
 ghost use Rattle.teb_rules.specs.Tree.{on};
 ghost use Rattle.phase_api.specs.FactsView.{IsTyped, setup_of, events_of};
@@ -12,8 +12,8 @@ ghost use Rattle.access_conflicts.specs.Registered.{Registered, is_here, registe
 use hold_book::{Hold, HoldBook};
 use phase_api::Facts;
 use std::alloc::{AllocError, Global};
-use teb_history::Event;
-use teb_names::{Cell, Node, Txn};
+use teb_rules::history::Event;
+use teb_rules::names::{Cell, Node, Txn};
 
 /// The lock table of a node. It stands for a history, and notes each later event.
 #[derive(Drop)]

@@ -29,8 +29,8 @@ mod hold_register;
 use hold_book::Hold;
 pub use hold_register::HoldRegister;
 use phase_api::Facts;
-use teb_names::{Node, Txn};
 use teb_rules::Verdict;
+use teb_rules::names::{Node, Txn};
 
 /// Returns a wait for the transaction that was found, or `Go`.
 pub fn wait_for(who: Option<Txn>) -> Verdict

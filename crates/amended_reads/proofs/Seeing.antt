@@ -2,19 +2,19 @@
 use Rattle.std.proofs.Common.{◌≡◌, ◌≢◌, ℕ, zero, suc, ◌<◌, Bool, true, false, eqb, List, [], ◌∷◌, length, Option, Some, None, slice_get, refl, sym, ◌∙◌, ap, subst, arith, ℤ}
 use Rattle.std.specs.List.{list_any}
 use Rattle.std.proofs.lemmas.Bool.{and_parts, and_from}
-use Rattle.teb_names.specs.declared.Cell.{Cell}
-use Rattle.teb_history.specs.declared.Event.{Event}
-use Rattle.teb_history.specs.Phases.{aborted, began_at, spot_of}
+use Rattle.teb_rules.specs.declared.names.Cell.{Cell}
+use Rattle.teb_rules.specs.declared.history.Event.{Event}
+use Rattle.teb_rules.specs.history.Phases.{aborted, began_at, spot_of}
 use Rattle.teb_rules.specs.Setup.{Setup}
 use Rattle.teb_rules.specs.Serializes.{In}
 use Rattle.teb_rules.specs.Tree.{row, path, meet, meets, side}
 use Rattle.teb_rules.specs.Versions.{sees, sees_by}
-use Rattle.teb_laws.specs.TreeFacts.{TreeFacts}
-use Rattle.teb_laws.specs.Lawful.{Lawful}
-use Rattle.teb_laws.proofs.Lists.{list_any_from, list_any_In}
-use Rattle.teb_laws.proofs.Meeting.{meets_exists}
-use Rattle.teb_laws.proofs.Nodes.{meet_is, meets_parts, on-among}
-use Rattle.teb_laws.proofs.ReadRule.{sees_parts, sees_from}
+use Rattle.teb_rules.specs.laws.TreeFacts.{TreeFacts}
+use Rattle.teb_rules.specs.laws.Lawful.{Lawful}
+use Rattle.teb_rules.proofs.lemmas.laws.Lists.{list_any_from, list_any_In}
+use Rattle.teb_rules.proofs.lemmas.laws.Meeting.{meets_exists}
+use Rattle.teb_rules.proofs.lemmas.laws.Nodes.{meet_is, meets_parts, on-among}
+use Rattle.teb_rules.proofs.lemmas.laws.ReadRule.{sees_parts, sees_from}
 use Rattle.version_chain.specs.Lists.{Version, writers_of, first_place, last_place}
 use Rattle.phase_api.specs.Versions.{HoldsVersions, has_version}
 use Rattle.candidate_reads.specs.Shown.{shows}

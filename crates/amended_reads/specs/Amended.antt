@@ -1,8 +1,8 @@
 -- What the nodes of a path show together, each of which shows a place or none.
 use Rattle.std.specs.Prelude.{ℕ, List, [], ◌∷◌, reverse, Option, None}
-use Rattle.teb_names.specs.declared.Cell.{Cell}
-use Rattle.teb_history.specs.declared.Event.{Event}
-use Rattle.teb_history.specs.Phases.{spot_of}
+use Rattle.teb_rules.specs.declared.names.Cell.{Cell}
+use Rattle.teb_rules.specs.declared.history.Event.{Event}
+use Rattle.teb_rules.specs.history.Phases.{spot_of}
 use Rattle.teb_rules.specs.Setup.{Setup}
 use Rattle.teb_rules.specs.Tree.{path}
 use Rattle.version_chain.specs.Lists.{last_place}

@@ -1,13 +1,13 @@
 -- The lines of answers, in the names of a tree.
 use Rattle.std.specs.Prelude.{ℕ, Bool, true, ◌&&◌, nat_lt, if◌then◌else◌, List, [], length}
 use Rattle.std.specs.List.{flat_map}
-use Rattle.teb_names.specs.declared.Cell.{Cell}
-use Rattle.teb_names.specs.declared.Node.{Node}
-use Rattle.teb_names.specs.declared.Cause.{Cause}
-use Rattle.teb_names.specs.declared.Cause.TheVariants as cause
-use Rattle.teb_names.specs.declared.Reply.{Reply}
-use Rattle.teb_names.specs.declared.Reply.TheVariants as reply
-use Rattle.teb_names.specs.declared.naming.NameBook.{NameBook}
+use Rattle.teb_rules.specs.declared.names.Cell.{Cell}
+use Rattle.teb_rules.specs.declared.names.Node.{Node}
+use Rattle.teb_rules.specs.declared.names.Cause.{Cause}
+use Rattle.teb_rules.specs.declared.names.Cause.TheVariants as cause
+use Rattle.teb_rules.specs.declared.names.Reply.{Reply}
+use Rattle.teb_rules.specs.declared.names.Reply.TheVariants as reply
+use Rattle.teb_rules.specs.declared.names.naming.NameBook.{NameBook}
 use Rattle.script_text.specs.declared.Answered.{Answered}
 use Rattle.script_text.specs.Texts.{reply_text}
 

@@ -1,6 +1,6 @@
 -- What a text tells.
 use Rattle.std.specs.Prelude.{◌≡◌, ℕ, List, ◌++◌, Option, Some, None}
-use Rattle.teb_names.specs.declared.naming.NameBook.{NameBook}
+use Rattle.teb_rules.specs.declared.names.naming.NameBook.{NameBook}
 use Rattle.script_text.specs.declared.Answered.{Answered}
 use Rattle.answer_log.specs.declared.reply_text.ReplyText.{ReplyText}
 use Rattle.answer_log.specs.Lines.{line_of, lines_of}

@@ -5,7 +5,7 @@ ghost use Rattle.std.specs.Prelude.{◌≡◌};
 use crate::Log;
 use short_reply::ShortReply;
 use std::alloc::AllocError;
-use teb_names::{NameBook, Reply, Session};
+use teb_rules::names::{NameBook, Reply, Session};
 
 /// The number of answers.
 #[derive(Drop)]

@@ -6,7 +6,7 @@ use crate::Log;
 use script_text::Answered;
 use short_reply::ShortReply;
 use std::alloc::{AllocError, Global};
-use teb_names::{NameBook, Reply, Session};
+use teb_rules::names::{NameBook, Reply, Session};
 
 /// The answers, the first one first.
 #[derive(Drop)]

@@ -1,6 +1,6 @@
 //! Where the replies of a run go: their text, a list of them, or their number.
 //!
-//! `replay_runner` and `fair_driver` ask an engine, and give each reply to a [`Log`]. They are generic in the log, so a run
+//! `script_runner::replay` and `script_runner::turns` ask an engine, and give each reply to a [`Log`]. They are generic in the log, so a run
 //! keeps no more than its caller needs.
 //!
 //! | Log | Keeps | An answer needs room for |

@@ -1,13 +1,13 @@
 //! The trait of what takes the answers of a run.
 
 ghost use Rattle.std.specs.Prelude.{◌++◌, ◌∷◌, [], List, IsOk, OnOk};
-ghost use Rattle.teb_names.specs.declared.naming.NameBook.{NameBook};
+ghost use Rattle.teb_rules.specs.declared.names.naming.NameBook.{NameBook};
 ghost use Rattle.short_reply.specs.ShortReplies.{full_reply};
 ghost use Rattle.script_text.specs.declared.Answered.{Answered};
 
 use short_reply::ShortReply;
 use std::alloc::AllocError;
-use teb_names::{NameBook, Reply, Session};
+use teb_rules::names::{NameBook, Reply, Session};
 
 /// Takes the answers of a run, the first one first. Nodes and tables have the names of a book, which is the same at each call.
 pub trait Log: Drop {

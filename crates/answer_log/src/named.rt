@@ -5,7 +5,7 @@ ghost use Rattle.short_reply.specs.ShortReplies.{full_reply};
 ghost use Rattle.answer_log.specs.Lines.{is_cell_named, is_cause_named, is_node_named, is_reply_named};
 
 use short_reply::ShortReply;
-use teb_names::{Cause, Cell, NameBook, Node};
+use teb_rules::names::{Cause, Cell, NameBook, Node};
 
 pub(crate) fn is_named(names: &NameBook, reply: &ShortReply) -> bool
     ensures { result ≡ is_reply_named names.now (full_reply reply.now) }

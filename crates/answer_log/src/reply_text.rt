@@ -2,7 +2,7 @@
 
 ghost use Rattle.std.specs.Prelude.{◌≡◌, ◌++◌, [], All, IfOk, List, OnErr, OnOk};
 ghost use Rattle.std.specs.List.{flat_map};
-ghost use Rattle.teb_names.specs.declared.naming.NameBook.{NameBook};
+ghost use Rattle.teb_rules.specs.declared.names.naming.NameBook.{NameBook};
 ghost use Rattle.short_reply.specs.ShortReplies.{full_reply};
 ghost use Rattle.script_text.specs.declared.Answered.{Answered};
 ghost use Rattle.script_text.specs.Named.{ReplyNamed};
@@ -15,7 +15,7 @@ use crate::named::is_named;
 use script_text::{Answered, put_reply, put_short_reply};
 use short_reply::ShortReply;
 use std::alloc::{AllocError, Global};
-use teb_names::{NameBook, Reply, Session};
+use teb_rules::names::{NameBook, Reply, Session};
 
 /// The text of answers, a line for each, written at once. An answer that names a node or a table without a name gets no line.
 #[derive(Drop)]

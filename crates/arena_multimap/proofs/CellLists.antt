@@ -6,11 +6,11 @@ use Rattle.std.proofs.lemmas.List.Sums.{prefix_len-le-length}
 use Rattle.std.proofs.lemmas.Map.Keys.{IsDistinct-head, IsDistinct-tail}
 use Rattle.std.proofs.lemmas.Bool.{cases_lt}
 use Rattle.std.proofs.lemmas.Bool.Decides.{eqb_tells}
-use Rattle.teb_names.specs.declared.Cell.{Cell}
-use Rattle.teb_names.specs.Cells.{same_cell, cell_cmp}
-use Rattle.teb_names.proofs.CellOrder.{same_cell-cell_cmp}
+use Rattle.teb_rules.specs.declared.names.Cell.{Cell}
+use Rattle.teb_rules.specs.names.Cells.{same_cell, cell_cmp}
+use Rattle.teb_rules.proofs.lemmas.names.CellOrder.{same_cell-cell_cmp}
 use Rattle.cell_index.specs.Cells.{Shown as Cells, place_in, with_cell}
-use Rattle.teb_names.proofs.SameCells.{same_laws}
+use Rattle.teb_rules.proofs.lemmas.names.SameCells.{same_laws}
 use Rattle.cell_index.proofs.Places.{decided, place_none, same_place, with_known, with_new, put_place, put_length, put_other, put_distinct}
 use Rattle.sorted_multimap.specs.Multimap.{values_of}
 use Rattle.arena_multimap.specs.declared.arena.Arena.{Arena}

@@ -1,8 +1,8 @@
 -- Lists by cell: the list of a cell has the number of its place among the cells.
 use Rattle.std.specs.Prelude.{◌≡◌, ℕ, suc, ◌≤◌, List, [], ◌∷◌, ◌++◌, length, map}
 use Rattle.std.specs.List.{IsDistinct}
-use Rattle.teb_names.specs.declared.Cell.{Cell}
-use Rattle.teb_names.specs.Cells.{same_cell}
+use Rattle.teb_rules.specs.declared.names.Cell.{Cell}
+use Rattle.teb_rules.specs.names.Cells.{same_cell}
 use Rattle.cell_index.specs.Cells.{Shown as Cells}
 use Rattle.arena_multimap.specs.declared.arena.Arena.{Arena}
 use Rattle.arena_multimap.specs.Arenas.{lists, IsArena, HasRoom}

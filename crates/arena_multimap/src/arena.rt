@@ -6,7 +6,7 @@ ghost use Rattle.std.specs.Prelude.{ℕ, ◌≡◌, ◌<◌, ◌≤◌, ◌+◌,
 ghost use Rattle.arena_multimap.specs.Arenas.{list_at, lists, segment_at, IsArena, HasRoom, HasRoomFor};
 
 use std::alloc::{AllocError, Global};
-use vec_room::make_wide_room;
+use teb_rules::vectors::make_wide_room;
 
 /// Room is made for at least this many values, so that not every `reserve` takes memory.
 pub(crate) const AHEAD: usize = 64;

@@ -2,15 +2,15 @@
 
 ghost use Rattle.std.specs.Prelude.{◌≡◌, ◌<◌, ◌≤◌, ◌+◌, ◌++◌, ◌∷◌, length, cond, [], remove, OnOk};
 ghost use Rattle.std.specs.Ordering.{is_eq};
-ghost use Rattle.teb_names.specs.declared.Cell.{Cell};
-ghost use Rattle.teb_names.specs.Cells.{cell_cmp};
+ghost use Rattle.teb_rules.specs.declared.names.Cell.{Cell};
+ghost use Rattle.teb_rules.specs.names.Cells.{cell_cmp};
 ghost use Rattle.sorted_multimap.specs.Multimap.{values_in};
 
 use crate::arena::{AHEAD, Arena};
 use cell_index::CellIndex;
 use std::alloc::{AllocError, Global};
 use std::marker::Model;
-use teb_names::Cell;
+use teb_rules::names::Cell;
 
 /// A multimap by cell: values, each beside its cell. Those of a cell have an order, and are lent as one slice.
 ///
@@ -36,7 +36,7 @@ impl<V: Copy> Drop for CellMultimap<V> {
 }
 
 impl<V: Copy> Model for CellMultimap<V> {
-    ghost use Rattle.teb_names.specs.declared.Cell.{Cell};
+    ghost use Rattle.teb_rules.specs.declared.names.Cell.{Cell};
     ghost use Rattle.sorted_multimap.specs.Multimap.{Shown};
 
     ghost Value = { Shown Cell V };

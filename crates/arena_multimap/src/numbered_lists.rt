@@ -2,7 +2,7 @@
 
 ghost use Rattle.std.specs.Prelude.{◌≡◌, ◌<◌, ◌≤◌, ◌+◌, ◌++◌, ◌∷◌, [], length, cond, eqb, filter, not, remove, set, OnOk};
 ghost use Rattle.std.specs.Result.{is_err};
-ghost use Rattle.teb_history.specs.Ascending.{IsAscendingBy, place_of, put_by};
+ghost use Rattle.teb_rules.specs.history.Ascending.{IsAscendingBy, place_of, put_by};
 ghost use Rattle.arena_multimap.specs.NumberedLists.{list_in};
 
 use crate::arena::{AHEAD, Arena};

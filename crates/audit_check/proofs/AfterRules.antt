@@ -6,7 +6,7 @@ use Rattle.std.specs.declared.alloc.Global.{Global}
 use Rattle.std.proofs.lemmas.Bool.{cases_eq}
 use Rattle.std.proofs.lemmas.Bool.Decides.{nat_tests}
 use Rattle.std.proofs.lemmas.List.Folds.{list_any-append}
-use Rattle.teb_names.proofs.Bools.{or_false, or_swap}
+use Rattle.teb_rules.proofs.lemmas.names.Bools.{or_false, or_swap}
 use Rattle.audit_check.specs.Items.{Item}
 use Rattle.audit_check.specs.Faults.{reads_from}
 use Rattle.audit_check.specs.Keeps.{MarksCommits, KeepsSources}

@@ -15,7 +15,7 @@ use Rattle.audit_check.specs.Keeps.{commit_passes}
 use Rattle.audit_check.specs.Views.{views, line_view}
 use Rattle.audit_check.specs.declared.line.Line.{Line}
 use Rattle.audit_check.proofs.FirstLines.{views_append, first_parts}
-use Rattle.teb_names.proofs.Bools.{and_true, or_false, or_swap}
+use Rattle.teb_rules.proofs.lemmas.names.Bools.{and_true, or_false, or_swap}
 
 and_turned : (a b : Bool) → (a && b) ≡ (b && a)
 and_turned true true = refl

@@ -4,11 +4,11 @@ use Rattle.std.specs.Prelude.{ℤ}
 use Rattle.std.specs.List.{list_any}
 use Rattle.std.proofs.lemmas.Bool.{and_parts, not-true}
 use Rattle.std.proofs.lemmas.Bool.Decides.{nat_tests}
-use Rattle.teb_names.specs.declared.naming.NameBook.{NameBook}
-use Rattle.teb_names.proofs.Bools.{or_true}
-use Rattle.teb_history.specs.declared.Event.{Event}
-use Rattle.teb_history.specs.declared.Event.TheVariants as event
-use Rattle.teb_history.specs.Accesses.{is_from}
+use Rattle.teb_rules.specs.declared.names.naming.NameBook.{NameBook}
+use Rattle.teb_rules.proofs.lemmas.names.Bools.{or_true}
+use Rattle.teb_rules.specs.declared.history.Event.{Event}
+use Rattle.teb_rules.specs.declared.history.Event.TheVariants as event
+use Rattle.teb_rules.specs.history.Accesses.{is_from}
 use Rattle.audit_check.specs.Items.{Item, RowKey}
 use Rattle.audit_check.specs.Faults.{reads_from}
 use Rattle.audit_check.specs.Standings.{committed}

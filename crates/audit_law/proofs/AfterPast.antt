@@ -3,21 +3,21 @@ use Rattle.std.proofs.Common.{◌≡◌, ℕ, suc, ◌<◌, ◌≤◌, true, fal
 use Rattle.std.specs.Prelude.{ℤ}
 use Rattle.std.specs.List.{list_any}
 use Rattle.std.proofs.lemmas.Bool.{cond_both, ltb-true, eq-eqb, or_left}
-use Rattle.teb_names.specs.declared.Txn.{Txn}
-use Rattle.teb_names.specs.declared.naming.NameBook.{NameBook}
-use Rattle.teb_history.specs.declared.Event.{Event}
-use Rattle.teb_history.specs.declared.Event.TheVariants as event
-use Rattle.teb_history.specs.Accesses.{is_from}
-use Rattle.teb_history.specs.Phases as history
-use Rattle.teb_history.specs.Positions.{first, first_event, newest, upto}
-use Rattle.teb_history.proofs.Any.{came_any}
+use Rattle.teb_rules.specs.declared.names.Txn.{Txn}
+use Rattle.teb_rules.specs.declared.names.naming.NameBook.{NameBook}
+use Rattle.teb_rules.specs.declared.history.Event.{Event}
+use Rattle.teb_rules.specs.declared.history.Event.TheVariants as event
+use Rattle.teb_rules.specs.history.Accesses.{is_from}
+use Rattle.teb_rules.specs.history.Phases as history
+use Rattle.teb_rules.specs.history.Positions.{first, first_event, newest, upto}
+use Rattle.teb_rules.proofs.lemmas.history.Any.{came_any}
 use Rattle.teb_rules.specs.Setup.{Setup}
-use Rattle.teb_laws.specs.Lawful.{Lawful}
-use Rattle.teb_laws.specs.TreeFacts.{TreeFacts}
-use Rattle.teb_laws.proofs.Assembly.{read_recoverable}
-use Rattle.teb_laws.proofs.Positions.{upto_all, upto_cons}
-use Rattle.teb_laws.proofs.Serial.{commits_from}
-use Rattle.teb_laws.proofs.Timeline.{committed-upto}
+use Rattle.teb_rules.specs.laws.Lawful.{Lawful}
+use Rattle.teb_rules.specs.laws.TreeFacts.{TreeFacts}
+use Rattle.teb_rules.proofs.lemmas.laws.Assembly.{read_recoverable}
+use Rattle.teb_rules.proofs.lemmas.laws.Positions.{upto_all, upto_cons}
+use Rattle.teb_rules.proofs.lemmas.laws.Serial.{commits_from}
+use Rattle.teb_rules.proofs.lemmas.laws.Timeline.{committed-upto}
 use Rattle.audit_check.specs.Items.{RowKey}
 use Rattle.audit_check.specs.Faults.{wrong_after}
 use Rattle.audit_law.specs.Printed.{event_item}

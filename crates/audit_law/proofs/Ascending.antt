@@ -6,14 +6,14 @@ use Rattle.std.specs.Option.{option_or}
 use Rattle.std.proofs.lemmas.Bool.{and_parts, cases_Bool, both_ways, false_from_ne_true}
 use Rattle.std.proofs.lemmas.List.Elements.{All-nil, All-cons, All-head, All-tail}
 use Rattle.std.proofs.lemmas.List.{reverse-append}
-use Rattle.teb_names.specs.declared.Cell.{Cell}
+use Rattle.teb_rules.specs.declared.names.Cell.{Cell}
 use Rattle.std.specs.Ordering.{is_lt, is_eq}
 use Rattle.std.specs.declared.cmp.Ordering.{Ordering}
 use Rattle.std.specs.declared.cmp.Ordering.TheVariants.{Less, Equal, Greater}
-use Rattle.teb_names.specs.Cells.{same_cell, cell_cmp, is_before}
-use Rattle.teb_names.specs.Rows.{row_of, is_ascending}
-use Rattle.teb_names.proofs.CellOrder.{same_cell-cell_cmp}
-use Rattle.teb_names.proofs.SameCells.{same_cell-true, same_itself}
+use Rattle.teb_rules.specs.names.Cells.{same_cell, cell_cmp, is_before}
+use Rattle.teb_rules.specs.names.Rows.{row_of, is_ascending}
+use Rattle.teb_rules.proofs.lemmas.names.CellOrder.{same_cell-cell_cmp}
+use Rattle.teb_rules.proofs.lemmas.names.SameCells.{same_cell-true, same_itself}
 
 -- no row is of cell x
 abbrev pub OthersThan : Cell → List (Cell × ℤ) → Type 0

@@ -5,17 +5,17 @@ use Rattle.std.specs.Prelude.{◌<◌, length, decimal, codes, ℤ, All}
 use Rattle.std.specs.Fmt.{signed_decimal}
 use Rattle.std.proofs.lemmas.Bool.Decides.{nat_tests}
 use Rattle.std.proofs.lemmas.List.Elements.{All-head, All-tail}
-use Rattle.teb_names.specs.declared.TheConstants.{SESSIONS}
-use Rattle.teb_names.specs.declared.Txn.{Txn}
-use Rattle.teb_names.specs.declared.Cell.{Cell}
-use Rattle.teb_names.specs.declared.Node.{Node}
-use Rattle.teb_names.specs.declared.Cause.{Cause}
-use Rattle.teb_names.specs.declared.Cause.TheVariants as cause
-use Rattle.teb_names.specs.declared.naming.NameBook.{NameBook}
-use Rattle.teb_history.specs.declared.Event.{Event}
-use Rattle.teb_history.specs.declared.Event.TheVariants as event
+use Rattle.teb_rules.specs.declared.names.TheConstants.{SESSIONS}
+use Rattle.teb_rules.specs.declared.names.Txn.{Txn}
+use Rattle.teb_rules.specs.declared.names.Cell.{Cell}
+use Rattle.teb_rules.specs.declared.names.Node.{Node}
+use Rattle.teb_rules.specs.declared.names.Cause.{Cause}
+use Rattle.teb_rules.specs.declared.names.Cause.TheVariants as cause
+use Rattle.teb_rules.specs.declared.names.naming.NameBook.{NameBook}
+use Rattle.teb_rules.specs.declared.history.Event.{Event}
+use Rattle.teb_rules.specs.declared.history.Event.TheVariants as event
 use Rattle.script_text.specs.Texts.{name_of, event_words, cause_words, instance_words, cell_words, txn_text}
-use Rattle.teb_names.specs.Names.{is_name}
+use Rattle.teb_rules.specs.names.Names.{is_name}
 use Rattle.script_text.specs.Named.{NodeNamed}
 use Rattle.script_text.specs.Ranges.{TxnFits, IntegerFits}
 use Rattle.audit_law.specs.Printed.{AreNames, RowFits, CellFits, CauseFits, EventFits, row_key_of, event_item}

@@ -6,11 +6,11 @@ use Rattle.std.specs.Str.{bytes_eq}
 use Rattle.std.proofs.lemmas.Bool.{and_from, or_from, not_from_false}
 use Rattle.std.proofs.lemmas.Bool.Decides.{nat_tests}
 use Rattle.std.proofs.lemmas.List.Elements.{All-head, All-tail}
-use Rattle.teb_names.specs.declared.Cell.{Cell}
-use Rattle.teb_names.specs.declared.naming.NameBook.{NameBook}
-use Rattle.teb_names.specs.Cells.{same_cell}
-use Rattle.teb_history.specs.declared.Event.{Event}
-use Rattle.teb_history.specs.declared.Event.TheVariants as event
+use Rattle.teb_rules.specs.declared.names.Cell.{Cell}
+use Rattle.teb_rules.specs.declared.names.naming.NameBook.{NameBook}
+use Rattle.teb_rules.specs.names.Cells.{same_cell}
+use Rattle.teb_rules.specs.declared.history.Event.{Event}
+use Rattle.teb_rules.specs.declared.history.Event.TheVariants as event
 use Rattle.script_text.specs.Named.{CellNamed}
 use Rattle.audit_check.specs.Items.{Item, RowKey, same_row_key}
 use Rattle.audit_check.specs.Items.Item.{Start, Order, Row, End}

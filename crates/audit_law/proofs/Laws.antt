@@ -1,9 +1,9 @@
 -- The law of printed runs.
 use Rattle.std.proofs.Common.{ℕ, List, [], sym, subst}
-use Rattle.teb_laws.specs.Laws.{reached}
-use Rattle.teb_laws.proofs.Laws.{every_run_serializes}
-use Rattle.teb_laws.proofs.Reachable.{run_good, empty_good}
-use Rattle.teb_laws.proofs.Sound.{tree_facts}
+use Rattle.teb_rules.specs.laws.Laws.{reached}
+use Rattle.teb_rules.proofs.lemmas.laws.Laws.{every_run_serializes}
+use Rattle.teb_rules.proofs.lemmas.laws.Reachable.{run_good, empty_good}
+use Rattle.teb_rules.proofs.lemmas.laws.Sound.{tree_facts}
 use Rattle.teb_rules.specs.Serializes.{Serializes}
 use Rattle.audit_law.specs.Law.{PrintedRunsAreAudited}
 use Rattle.audit_law.proofs.Ascending.{ascending_apart}

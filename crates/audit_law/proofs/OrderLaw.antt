@@ -3,12 +3,12 @@ use Rattle.std.proofs.Common.{◌≡◌, ◌≢◌, ℕ, ◌==◌, true, false, 
 use Rattle.std.specs.Prelude.{ℤ}
 use Rattle.std.specs.List.{list_all}
 use Rattle.std.proofs.lemmas.Bool.{and_from, eq-eqb, ne_eqb, or_from, or_left, or_right, not_from_false, not_from_true}
-use Rattle.teb_names.specs.declared.naming.NameBook.{NameBook}
-use Rattle.teb_history.specs.declared.Event.{Event}
-use Rattle.teb_history.specs.Phases as history
+use Rattle.teb_rules.specs.declared.names.naming.NameBook.{NameBook}
+use Rattle.teb_rules.specs.declared.history.Event.{Event}
+use Rattle.teb_rules.specs.history.Phases as history
 use Rattle.teb_rules.specs.Serializes.{In, Pairs, Serializes}
 use Rattle.teb_rules.specs.Setup.{Store}
-use Rattle.teb_laws.proofs.ReadRule.{list_all_from}
+use Rattle.teb_rules.proofs.lemmas.laws.ReadRule.{list_all_from}
 use Rattle.audit_check.specs.Items.{Item, RowKey}
 use Rattle.audit_check.specs.Items.Item.{Start, Began, Got, Put, Ready, Done, Gone, Told, Order, Row, End}
 use Rattle.audit_check.specs.Faults.{is_among, are_distinct, are_distinct_and, wrong_order}

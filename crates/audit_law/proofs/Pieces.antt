@@ -6,11 +6,11 @@ use Rattle.std.specs.Str.{bytes_eq}
 use Rattle.std.specs.List.{list_all}
 use Rattle.std.proofs.lemmas.Bool.{and_parts}
 use Rattle.std.proofs.lemmas.Bool.Decides.{nat_tests}
-use Rattle.teb_names.specs.declared.Txn.{Txn}
-use Rattle.teb_names.specs.declared.Cell.{Cell}
-use Rattle.teb_names.specs.declared.naming.NameBook.{NameBook}
+use Rattle.teb_rules.specs.declared.names.Txn.{Txn}
+use Rattle.teb_rules.specs.declared.names.Cell.{Cell}
+use Rattle.teb_rules.specs.declared.names.naming.NameBook.{NameBook}
 use Rattle.script_text.specs.Texts.{name_of, txn_text, value_text}
-use Rattle.teb_names.specs.Names.{is_name, is_name_byte, is_lower}
+use Rattle.teb_rules.specs.names.Names.{is_name, is_name_byte, is_lower}
 use Rattle.script_text.specs.Ranges.{TxnFits, IntegerFits, ValueFits}
 use Rattle.audit_law.specs.Printed.{row_key_of}
 use Rattle.audit_check.specs.Reading.{txn_at, name_at, row_key_at, value_at, number_at, from_one}

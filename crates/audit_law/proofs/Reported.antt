@@ -4,19 +4,19 @@ use Rattle.std.specs.Prelude.{ℤ}
 use Rattle.std.specs.List.{All}
 use Rattle.std.proofs.lemmas.Bool.{eqb-true, or_cases}
 use Rattle.std.proofs.lemmas.List.Elements.{All-nil, All-cons, All-head, All-tail}
-use Rattle.teb_names.specs.declared.Txn.{Txn}
-use Rattle.teb_names.specs.declared.Cell.{Cell}
-use Rattle.teb_names.specs.declared.naming.NameBook.{NameBook}
-use Rattle.teb_names.specs.Cells.{same_cell}
-use Rattle.teb_names.specs.Rows.{row_of}
-use Rattle.teb_history.specs.declared.Event.{Event}
-use Rattle.teb_history.specs.declared.Event.TheVariants.{Began, Got, Put, Ready, Done, Gone, Told}
-use Rattle.teb_history.specs.Phases as history
-use Rattle.teb_history.specs.Accesses.{last_put}
+use Rattle.teb_rules.specs.declared.names.Txn.{Txn}
+use Rattle.teb_rules.specs.declared.names.Cell.{Cell}
+use Rattle.teb_rules.specs.declared.names.naming.NameBook.{NameBook}
+use Rattle.teb_rules.specs.names.Cells.{same_cell}
+use Rattle.teb_rules.specs.names.Rows.{row_of}
+use Rattle.teb_rules.specs.declared.history.Event.{Event}
+use Rattle.teb_rules.specs.declared.history.Event.TheVariants.{Began, Got, Put, Ready, Done, Gone, Told}
+use Rattle.teb_rules.specs.history.Phases as history
+use Rattle.teb_rules.specs.history.Accesses.{last_put}
 use Rattle.teb_rules.specs.Setup.{Store}
 use Rattle.teb_rules.specs.Serializes.{In, Serializes, final_table, value_of}
 use Rattle.teb_rules.specs.Versions.{value_left}
-use Rattle.teb_names.proofs.SameCells.{same_cell-true}
+use Rattle.teb_rules.proofs.lemmas.names.SameCells.{same_cell-true}
 use Rattle.script_text.specs.Ranges.{TxnFits, ValueFits}
 use Rattle.audit_check.specs.Standings.{committed}
 use Rattle.audit_law.specs.Printed.{CellFits, RowFits, EventFits}

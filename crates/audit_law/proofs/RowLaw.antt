@@ -5,12 +5,12 @@ use Rattle.std.specs.List.{All, IsDistinct, list_any}
 use Rattle.std.specs.Str.{bytes_eq}
 use Rattle.std.proofs.lemmas.Bool.{and_left, and_right, and_parts, and_from, eq-eqb, eqb-true, cases_Bool, or_from, or_left, or_right, not_from_true}
 use Rattle.std.proofs.lemmas.List.Elements.{All-head, All-tail}
-use Rattle.teb_names.specs.declared.Cell.{Cell}
-use Rattle.teb_names.specs.declared.naming.NameBook.{NameBook}
-use Rattle.teb_names.specs.Cells.{same_cell}
-use Rattle.teb_names.specs.Rows.{row_of}
-use Rattle.teb_history.specs.declared.Event.{Event}
-use Rattle.teb_history.specs.declared.Event.TheVariants as event
+use Rattle.teb_rules.specs.declared.names.Cell.{Cell}
+use Rattle.teb_rules.specs.declared.names.naming.NameBook.{NameBook}
+use Rattle.teb_rules.specs.names.Cells.{same_cell}
+use Rattle.teb_rules.specs.names.Rows.{row_of}
+use Rattle.teb_rules.specs.declared.history.Event.{Event}
+use Rattle.teb_rules.specs.declared.history.Event.TheVariants as event
 use Rattle.teb_rules.specs.Replay as rule
 use Rattle.script_text.specs.Named.{CellNamed}
 use Rattle.audit_check.specs.Items.{Item, RowKey, same_row_key}

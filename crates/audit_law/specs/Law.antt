@@ -2,15 +2,15 @@
 use Rattle.std.specs.Prelude.{◌≡◌, ℕ, List, map, reverse, ◌++◌, ℤ, All, None, Ok}
 use Rattle.std.specs.List.{flat_map, IsDistinct}
 use Rattle.std.specs.Str.{bytes_eq}
-use Rattle.teb_names.specs.declared.Cell.{Cell}
-use Rattle.teb_names.specs.declared.Txn.{Txn}
-use Rattle.teb_names.specs.declared.naming.NameBook.{NameBook}
-use Rattle.teb_names.specs.Rows.{row_of, IsAscending}
-use Rattle.teb_history.specs.declared.Event.{Event}
+use Rattle.teb_rules.specs.declared.names.Cell.{Cell}
+use Rattle.teb_rules.specs.declared.names.Txn.{Txn}
+use Rattle.teb_rules.specs.declared.names.naming.NameBook.{NameBook}
+use Rattle.teb_rules.specs.names.Rows.{row_of, IsAscending}
+use Rattle.teb_rules.specs.declared.history.Event.{Event}
 use Rattle.teb_rules.specs.Setup.{Store}
 use Rattle.teb_rules.specs.Ranks.{serial_order}
 use Rattle.teb_rules.specs.Serializes.{final_table}
-use Rattle.teb_laws.specs.Laws.{OfEveryStore}
+use Rattle.teb_rules.specs.laws.Laws.{OfEveryStore}
 use Rattle.script_text.specs.Texts.{starts_text, event_text, report_text}
 use Rattle.audit_check.specs.Audit.{IsAudited, first_line}
 use Rattle.audit_check.specs.Faults.{is_among, wrong_order}

@@ -11,7 +11,7 @@
 //!   (`printed_run` in `specs/Law.antt`).
 //! - A text is *audited* if `audit_of` finds no fault in it (`IsAudited` of `audit_check`).
 //!
-//! The first law is about a history that the rules reach (`OfEveryStore` of `teb_laws`). Its premises: the starting rows
+//! The first law is about a history that the rules reach (`OfEveryStore` of `teb_rules::laws`). Its premises: the starting rows
 //! ascend, the printed order is the serial order of the history and the printed rows are its final table (`Reports`), and all
 //! numbers and names can be printed (`CanPrint`). By the second law the reads of exactly the committed transactions are
 //! checked.

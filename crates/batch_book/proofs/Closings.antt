@@ -1,9 +1,9 @@
 -- Whether a batch closed before another started is known from where it closed.
 use Rattle.std.proofs.Common.{◌≡◌, ℕ, ◌≤◌, Bool, true, false, cond, ltb, List, [], ◌∷◌, length, Option, Some, None, refl, sym, ◌∙◌, ap, arith, le-ltb, inl, inr}
 use Rattle.std.proofs.lemmas.Bool.{ltb-false, both_ways, cases_Bool}
-use Rattle.teb_history.specs.declared.Event.{Event}
-use Rattle.teb_history.specs.Positions.{came}
-use Rattle.teb_history.specs.Phases.{begun, unfinished}
+use Rattle.teb_rules.specs.declared.history.Event.{Event}
+use Rattle.teb_rules.specs.history.Positions.{came}
+use Rattle.teb_rules.specs.history.Phases.{begun, unfinished}
 use Rattle.teb_rules.specs.Setup.{Setup}
 use Rattle.teb_rules.specs.Tree.{on, side}
 use Rattle.teb_rules.specs.Batches.{start, close}

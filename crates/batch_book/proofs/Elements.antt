@@ -4,7 +4,7 @@ use Rattle.std.specs.List.{All, list_any}
 use Rattle.std.specs.Option.{option_map, IsSome}
 use Rattle.std.proofs.lemmas.Bool.{cases_Bool, ne_eqb, or_cases, or_left, or_right, or_parts}
 use Rattle.std.proofs.lemmas.List.Elements.{All-head, All-tail}
-use Rattle.teb_history.specs.Ascending.{AllAbove, IsAscendingBy, next_place, place_of}
+use Rattle.teb_rules.specs.history.Ascending.{AllAbove, IsAscendingBy, next_place, place_of}
 use Rattle.batch_book.specs.Book.{AllBelow}
 use Rattle.batch_book.specs.Fields.{Has}
 

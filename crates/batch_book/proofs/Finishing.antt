@@ -2,18 +2,18 @@
 use Rattle.std.proofs.Common.{◌≡◌, ℕ, Bool, true, false, cond, not, ◌&&◌, ◌||◌, eqb, List, [], ◌∷◌, ◌++◌, length, filter, map, count_by, Option, Some, None, refl, sym, ◌∙◌, ap, subst, eqb-true}
 use Rattle.std.proofs.lemmas.Bool.{both_ways, false_from_ne_true}
 use Rattle.std.proofs.lemmas.List.Elements.{filter-append, filter_agree}
-use Rattle.teb_names.specs.declared.Txn.{Txn}
-use Rattle.teb_names.specs.declared.Session.{Session}
-use Rattle.teb_names.specs.declared.Kind.{Kind}
-use Rattle.teb_names.proofs.Bools.{and_true, eqb_swap}
-use Rattle.teb_history.specs.declared.Event.{Event}
-use Rattle.teb_history.specs.declared.Event.TheVariants.{Began, Got, Put, Ready, Done, Gone, Told}
-use Rattle.teb_history.specs.Phases.{is_began, begun, unfinished, txns, committed, aborted}
+use Rattle.teb_rules.specs.declared.names.Txn.{Txn}
+use Rattle.teb_rules.specs.declared.names.Session.{Session}
+use Rattle.teb_rules.specs.declared.names.Kind.{Kind}
+use Rattle.teb_rules.proofs.lemmas.names.Bools.{and_true, eqb_swap}
+use Rattle.teb_rules.specs.declared.history.Event.{Event}
+use Rattle.teb_rules.specs.declared.history.Event.TheVariants.{Began, Got, Put, Ready, Done, Gone, Told}
+use Rattle.teb_rules.specs.history.Phases.{is_began, begun, unfinished, txns, committed, aborted}
 use Rattle.teb_rules.specs.Setup.{Setup}
 use Rattle.teb_rules.specs.Serializes.{In}
 use Rattle.teb_rules.specs.Tree.{on, side, on_path}
 use Rattle.teb_rules.specs.Batches.{start}
-use Rattle.teb_laws.proofs.Serial.{filter-In}
+use Rattle.teb_rules.proofs.lemmas.laws.Serial.{filter-In}
 use Rattle.batch_book.specs.Book.{Running, closed_at, is_busy, running_finished, row_finished}
 use Rattle.batch_book.specs.Histories.{IsNumbered, MayCome, Passes, Finishes, closing, admitted, members, row_of, running_of, rows_in, running_in}
 use Rattle.batch_book.proofs.Numbered.{begins_once, unfinished_is, unfinished_step, unfinished_kept, In-txns_begun, txns_began, txns_kept, spot_began, on_kept, side_kept, is_began_event}

@@ -1,14 +1,14 @@
 -- Whether a batch is full, by its running rows.
 use Rattle.std.proofs.Common.{◌≡◌, ℕ, Bool, true, false, cond, ◌&&◌, eqb, leb, List, [], ◌∷◌, filter, map, find, count_by, None, refl, sym, ◌∙◌, ap, inl, inr, eqb-true}
 use Rattle.std.proofs.lemmas.Bool.{cases_Bool}
-use Rattle.teb_history.specs.declared.Event.{Event}
-use Rattle.teb_history.specs.Positions.{last}
-use Rattle.teb_history.specs.Phases.{unfinished, txns}
+use Rattle.teb_rules.specs.declared.history.Event.{Event}
+use Rattle.teb_rules.specs.history.Positions.{last}
+use Rattle.teb_rules.specs.history.Phases.{unfinished, txns}
 use Rattle.teb_rules.specs.Setup.{Setup}
 use Rattle.teb_rules.specs.Serializes.{In}
 use Rattle.teb_rules.specs.Tree.{on, side}
 use Rattle.teb_rules.specs.Batches.{opens, start}
-use Rattle.teb_laws.proofs.Serial.{filter-In}
+use Rattle.teb_rules.proofs.lemmas.laws.Serial.{filter-In}
 use Rattle.batch_book.specs.Book.{Running, full_on}
 use Rattle.batch_book.specs.Histories.{IsNumbered, admitted, members, running_of, running_in, full_at}
 use Rattle.batch_book.proofs.Intervals.{start_last}

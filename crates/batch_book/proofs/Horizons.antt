@@ -2,10 +2,10 @@
 use Rattle.std.proofs.Common.{◌≡◌, ℕ, zero, suc, ◌<◌, ◌≤◌, Bool, true, false, cond, eqb, List, [], ◌∷◌, length, get_or, map, Option, Some, None, ◌∙◌, ap, subst₂, inl, inr, arith, refl, eq-eqb}
 use Rattle.std.specs.List.{list_any}
 use Rattle.std.proofs.lemmas.Bool.{cases_lt, or_left, or_right}
-use Rattle.teb_history.specs.declared.Event.{Event}
-use Rattle.teb_history.specs.Ascending.{AllAbove, IsAscendingBy}
-use Rattle.teb_history.specs.Phases.{txns}
-use Rattle.teb_history.specs.Positions.{came}
+use Rattle.teb_rules.specs.declared.history.Event.{Event}
+use Rattle.teb_rules.specs.history.Ascending.{AllAbove, IsAscendingBy}
+use Rattle.teb_rules.specs.history.Phases.{txns}
+use Rattle.teb_rules.specs.history.Positions.{came}
 use Rattle.teb_rules.specs.Setup.{Setup}
 use Rattle.teb_rules.specs.Serializes.{In}
 use Rattle.teb_rules.specs.Tree.{on}
@@ -17,7 +17,7 @@ use Rattle.batch_book.specs.Histories.{BatchesOf, ClosedBelow, closing, members,
 use Rattle.batch_book.specs.Fields.{batch_at, member_number, row_shown}
 use Rattle.batch_book.specs.Settled.{no_member, IsClosedBefore, IsKept}
 use Rattle.batch_book.proofs.Numbered.{txns-In}
-use Rattle.teb_laws.proofs.Serial.{In-filter}
+use Rattle.teb_rules.proofs.lemmas.laws.Serial.{In-filter}
 
 above_at : (n : ℕ) (J : List Member) (i : ℕ) → AllAbove member_number n J → i < length J → n < member_number (get_or J i no_member)
 above_at n [] i h l = absurd (omega arith)

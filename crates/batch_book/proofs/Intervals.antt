@@ -2,17 +2,17 @@
 use Rattle.std.proofs.Common.{◌≡◌, ℕ, suc, ◌<◌, Bool, true, false, cond, ◌&&◌, ◌||◌, List, [], ◌∷◌, length, Option, Some, None, refl, sym, ◌∙◌, ap, subst, inl, inr, arith, eq-eqb, le_refl, lt-ltb, le-ltb, ltb-true}
 use Rattle.std.proofs.lemmas.Bool.{cases_Bool, cases_lt, both_ways, and_parts, and_from, and_cases, and_left, and_right, not_from_true}
 use Rattle.std.specs.List.{list_all}
-use Rattle.teb_history.specs.declared.Event.{Event}
-use Rattle.teb_history.specs.declared.Event.TheVariants.{Began}
-use Rattle.teb_history.specs.Positions.{upto, first, last, first_event, newest, came}
-use Rattle.teb_history.specs.Phases.{is_began, began_at, begun, unfinished, txns}
-use Rattle.teb_history.proofs.Chains.{length-upto}
+use Rattle.teb_rules.specs.declared.history.Event.{Event}
+use Rattle.teb_rules.specs.declared.history.Event.TheVariants.{Began}
+use Rattle.teb_rules.specs.history.Positions.{upto, first, last, first_event, newest, came}
+use Rattle.teb_rules.specs.history.Phases.{is_began, began_at, begun, unfinished, txns}
+use Rattle.teb_rules.proofs.lemmas.history.Chains.{length-upto}
 use Rattle.teb_rules.specs.Setup.{Setup}
 use Rattle.teb_rules.specs.Serializes.{In}
 use Rattle.teb_rules.specs.Tree.{on, side}
 use Rattle.teb_rules.specs.Batches.{idle, opens, start, close}
-use Rattle.teb_laws.proofs.Positions.{upto_all, upto_cons, first-holds, before, now, later, first_cases}
-use Rattle.teb_laws.proofs.Timeline.{begun-upto}
+use Rattle.teb_rules.proofs.lemmas.laws.Positions.{upto_all, upto_cons, first-holds, before, now, later, first_cases}
+use Rattle.teb_rules.proofs.lemmas.laws.Timeline.{begun-upto}
 use Rattle.batch_book.specs.Book.{closed_at}
 use Rattle.batch_book.specs.Histories.{IsNumbered, closing}
 use Rattle.batch_book.proofs.Numbered.{begun_none, begun_step, begins_new, unfinished_parts, unfinished_before, txns-In, on_kept, side_kept}

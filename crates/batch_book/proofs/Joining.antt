@@ -3,19 +3,19 @@ use Rattle.std.proofs.Common.{◌≡◌, ◌⊎◌, ℕ, suc, ◌+◌, Bool, tru
 use Rattle.std.proofs.lemmas.Bool.{cases_Bool, not-false, not_from_true, ne_eqb, eqb-false}
 use Rattle.std.proofs.lemmas.List.{map-append}
 use Rattle.std.proofs.lemmas.List.Elements.{filter-append}
-use Rattle.teb_names.specs.declared.Txn.{Txn}
-use Rattle.teb_names.specs.declared.Session.{Session}
-use Rattle.teb_names.specs.declared.Kind.{Kind}
-use Rattle.teb_names.specs.declared.Spot.{Spot}
-use Rattle.teb_history.specs.declared.Event.{Event}
-use Rattle.teb_history.specs.declared.Event.TheVariants.{Began}
-use Rattle.teb_history.specs.Positions.{last}
-use Rattle.teb_history.specs.Phases.{is_began, begun, unfinished, begun_count, txns}
+use Rattle.teb_rules.specs.declared.names.Txn.{Txn}
+use Rattle.teb_rules.specs.declared.names.Session.{Session}
+use Rattle.teb_rules.specs.declared.names.Kind.{Kind}
+use Rattle.teb_rules.specs.declared.names.Spot.{Spot}
+use Rattle.teb_rules.specs.declared.history.Event.{Event}
+use Rattle.teb_rules.specs.declared.history.Event.TheVariants.{Began}
+use Rattle.teb_rules.specs.history.Positions.{last}
+use Rattle.teb_rules.specs.history.Phases.{is_began, begun, unfinished, begun_count, txns}
 use Rattle.teb_rules.specs.Setup.{Setup}
 use Rattle.teb_rules.specs.Serializes.{In}
 use Rattle.teb_rules.specs.Tree.{on, side, on_path, side_at}
 use Rattle.teb_rules.specs.Batches.{idle, opens, start}
-use Rattle.teb_laws.proofs.Serial.{filter-In}
+use Rattle.teb_rules.proofs.lemmas.laws.Serial.{filter-In}
 use Rattle.batch_book.specs.Book.{Running, closed_at, is_busy, start_on, admitted_on, admit, rows_joined, running_joined}
 use Rattle.batch_book.specs.Histories.{IsNumbered, MayCome, closing, admitted, members, row_of, running_of, rows_in, running_in}
 use Rattle.batch_book.proofs.Numbered.{begun_step, begins_new, begins_once, unfinished_from, unfinished_kept, finish_begun, committed_step, aborted_step, In-txns_begun, txns_began, spot_began, on_kept, side_kept}

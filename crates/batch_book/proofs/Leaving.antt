@@ -8,7 +8,7 @@ use Rattle.std.proofs.lemmas.List.Elements.{All-nil, All-filter}
 use Rattle.batch_book.specs.declared.members.Member.{Member}
 use Rattle.batch_book.specs.declared.members.Batch.{Batch}
 use Rattle.batch_book.specs.Book.{Running, closed_at, is_busy, running_finished, row_finished, rows_finished}
-use Rattle.teb_history.proofs.AscendingLists.{ascending-filter}
+use Rattle.teb_rules.proofs.lemmas.history.AscendingLists.{ascending-filter}
 use Rattle.batch_book.specs.Fields.{no_batch, batch_at, member_number, row_shown, running_shown, Has, IsHeld}
 use Rattle.batch_book.proofs.Elements.{filter-Has, Has-filter, found_Has, unfound_Has, any_Has, Has-any, none_Has, Has-none, All-Has, one_Has}
 use Rattle.batch_book.proofs.Lists.{map-map, filter-map}

@@ -1,23 +1,23 @@
 -- Phases and numbers of transactions, event by event, in a numbered history.
 use Rattle.std.proofs.Common.{◌≡◌, ℕ, suc, ◌<◌, ◌≤◌, Bool, true, false, not, ◌&&◌, ◌||◌, eqb, List, [], ◌∷◌, ◌++◌, refl, sym, ◌∙◌, ap, subst, inl, inr, arith, eqb-true, eq-eqb, le_refl}
 use Rattle.std.proofs.lemmas.Bool.{cases_order, both_ways, or_cases, or_left, or_right, or_parts, or_from, and_parts, false_from_ne_true, not-true}
-use Rattle.teb_names.specs.declared.Txn.{Txn}
-use Rattle.teb_names.specs.declared.Spot.{Spot}
-use Rattle.teb_names.specs.declared.Session.{Session}
-use Rattle.teb_names.specs.declared.Kind.{Kind}
+use Rattle.teb_rules.specs.declared.names.Txn.{Txn}
+use Rattle.teb_rules.specs.declared.names.Spot.{Spot}
+use Rattle.teb_rules.specs.declared.names.Session.{Session}
+use Rattle.teb_rules.specs.declared.names.Kind.{Kind}
 use Rattle.teb_rules.specs.Setup.{Setup}
 use Rattle.teb_rules.specs.Tree.{on, side, on_path, side_at}
-use Rattle.teb_laws.proofs.Serial.{numbers-In}
-use Rattle.teb_history.specs.declared.Event.{Event}
-use Rattle.teb_history.specs.declared.Event.TheVariants.{Began, Done, Gone}
-use Rattle.teb_history.specs.Positions.{first, first_event}
-use Rattle.teb_history.specs.Phases.{is_began, is_done, is_gone, began_at, done_at, gone_at, begun, committed, aborted, unfinished, begun_count, numbers, txns, spot_of}
+use Rattle.teb_rules.proofs.lemmas.laws.Serial.{numbers-In}
+use Rattle.teb_rules.specs.declared.history.Event.{Event}
+use Rattle.teb_rules.specs.declared.history.Event.TheVariants.{Began, Done, Gone}
+use Rattle.teb_rules.specs.history.Positions.{first, first_event}
+use Rattle.teb_rules.specs.history.Phases.{is_began, is_done, is_gone, began_at, done_at, gone_at, begun, committed, aborted, unfinished, begun_count, numbers, txns, spot_of}
 use Rattle.teb_rules.specs.Serializes.{In}
-use Rattle.teb_laws.proofs.Locks.{In-numbers}
-use Rattle.teb_laws.proofs.Cascades.{numbers_pos}
+use Rattle.teb_rules.proofs.lemmas.laws.Locks.{In-numbers}
+use Rattle.teb_rules.proofs.lemmas.laws.Cascades.{numbers_pos}
 use Rattle.batch_book.specs.Histories.{IsNumbered, MayCome}
-pub use Rattle.teb_history.proofs.Newest.{begun-cons as begun_step, committed-cons as committed_step, aborted-cons as aborted_step, unfinished-cons as unfinished_step}
-pub use Rattle.teb_laws.proofs.Holding.{unfinished_same as unfinished_kept}
+pub use Rattle.teb_rules.proofs.lemmas.history.Newest.{begun-cons as begun_step, committed-cons as committed_step, aborted-cons as aborted_step, unfinished-cons as unfinished_step}
+pub use Rattle.teb_rules.proofs.lemmas.laws.Holding.{unfinished_same as unfinished_kept}
 
 pub unfinished_is : (H : List Event) (u : ℕ) → unfinished H u ≡ (begun H u && not (committed H u) && not (aborted H u))
 unfolding unfinished

@@ -2,18 +2,18 @@
 use Rattle.std.proofs.Common.{◌≡◌, ℕ, suc, ◌<◌, Bool, true, false, cond, not, ◌&&◌, eqb, List, [], ◌∷◌, length, map, find, filter, Some, refl, sym, ◌∙◌, ap, subst, inl, inr, arith, eq-eqb}
 use Rattle.std.specs.List.{list_any}
 use Rattle.std.proofs.lemmas.Bool.{cases_Bool, both_ways, and_from, false_from_ne_true, eqb-true, or_cases, or_left, or_right}
-use Rattle.teb_history.specs.declared.Event.{Event}
-use Rattle.teb_history.specs.declared.Event.TheVariants.{Began, Got, Put, Ready, Done, Gone, Told}
-use Rattle.teb_history.specs.Phases.{begun, begun_count, unfinished, txns, numbers}
+use Rattle.teb_rules.specs.declared.history.Event.{Event}
+use Rattle.teb_rules.specs.declared.history.Event.TheVariants.{Began, Got, Put, Ready, Done, Gone, Told}
+use Rattle.teb_rules.specs.history.Phases.{begun, begun_count, unfinished, txns, numbers}
 use Rattle.teb_rules.specs.Setup.{Setup}
 use Rattle.teb_rules.specs.Serializes.{In}
 use Rattle.teb_rules.specs.Tree.{row, has_batches, leaf, on, side_at}
 use Rattle.teb_rules.specs.Stops.{on_begin}
 use Rattle.teb_rules.specs.Verdicts.{wait_for}
 use Rattle.teb_rules.specs.declared.Verdict.TheVariants.{Go}
-use Rattle.teb_names.specs.declared.Spot.{Spot}
-use Rattle.teb_laws.specs.Lawful.{Granted, Lawful}
-use Rattle.teb_laws.proofs.Serial.{filter-In, In-filter}
+use Rattle.teb_rules.specs.declared.names.Spot.{Spot}
+use Rattle.teb_rules.specs.laws.Lawful.{Granted, Lawful}
+use Rattle.teb_rules.proofs.lemmas.laws.Serial.{filter-In, In-filter}
 use Rattle.batch_book.specs.Book.{Row, Running, Book, full_on, AllBelow, IsNew, has_joined, rows_joined, running_joined, rows_finished, running_finished}
 use Rattle.batch_book.specs.Histories.{IsNumbered, MayCome, Joins, Finishes, Passes, BatchesOf, full_at, admitted, members, row_of, running_of, rows_in, running_in}
 use Rattle.batch_book.proofs.Numbered.{begun_bounds, In-txns_begun, txns-In}

@@ -1,7 +1,7 @@
 -- The fields of a book, and what it shows by them.
 use Rattle.std.specs.Prelude.{◌≡◌, ◌⊎◌, ◌≤◌, ◌<◌, ◌&&◌, ℕ, Bool, not, suc, cond, eqb, length, get_or, List, [], ◌∷◌, map, None}
 use Rattle.std.specs.List.{All}
-use Rattle.teb_history.specs.Ascending.{IsAscendingBy}
+use Rattle.teb_rules.specs.history.Ascending.{IsAscendingBy}
 use Rattle.batch_book.specs.declared.members.Member.{Member}
 use Rattle.batch_book.specs.declared.members.Batch.{Batch}
 use Rattle.batch_book.specs.Book.{Row, Running, start_on, admitted_on, closes_before}

@@ -1,9 +1,9 @@
 -- The batches of a node in a history, as a book shows them.
 use Rattle.std.specs.Prelude.{◌≡◌, ◌<◌, ℕ, suc, cond, ◌&&◌, eqb, leb, List, [], ◌∷◌, map, filter, find, count_by, Option, Some, None, IsTrue, IsFalse}
-use Rattle.teb_history.specs.declared.Event.{Event}
-use Rattle.teb_history.specs.declared.Event.TheVariants.{Began, Done, Gone}
-use Rattle.teb_history.specs.Positions.{came}
-use Rattle.teb_history.specs.Phases.{txns, begun, begun_count, unfinished}
+use Rattle.teb_rules.specs.declared.history.Event.{Event}
+use Rattle.teb_rules.specs.declared.history.Event.TheVariants.{Began, Done, Gone}
+use Rattle.teb_rules.specs.history.Positions.{came}
+use Rattle.teb_rules.specs.history.Phases.{txns, begun, begun_count, unfinished}
 use Rattle.teb_rules.specs.Setup.{Setup}
 use Rattle.teb_rules.specs.Tree.{on, side, on_path, side_at}
 use Rattle.teb_rules.specs.Batches.{start, close}

@@ -1,9 +1,9 @@
 //! The batches of one node.
 
 ghost use Rattle.std.specs.Prelude.{◌≡◌, ◌<◌, ◌≤◌, ◌+◌, ◌∷◌, ◌&&◌, ℕ, [], List, length, not, eqb, ltb, cond, OnOk, IsTrue, Some, None};
-ghost use Rattle.teb_history.specs.declared.Event.{Event};
-ghost use Rattle.teb_history.specs.Phases.{begun};
-ghost use Rattle.teb_history.specs.Written.{txn_of};
+ghost use Rattle.teb_rules.specs.declared.history.Event.{Event};
+ghost use Rattle.teb_rules.specs.history.Phases.{begun};
+ghost use Rattle.teb_rules.specs.history.Written.{txn_of};
 ghost use Rattle.teb_rules.specs.Setup.{Setup};
 ghost use Rattle.teb_rules.specs.Tree.{on};
 ghost use Rattle.teb_rules.specs.Batches.{start, close};
@@ -14,8 +14,8 @@ use crate::members::{Batch, Member, enter, find_member, first_on, is_any_of, tak
 use crate::settled::overlap;
 use std::alloc::{AllocError, Global};
 use std::marker::Model;
-use teb_names::Txn;
-use vec_room::make_wide_room;
+use teb_rules::names::Txn;
+use teb_rules::vectors::make_wide_room;
 
 /// The batches of one node, as far as a history goes.
 #[derive(Drop)]

@@ -1,15 +1,15 @@
 //! What holds of every book of batches and of every history.
 
 ghost use Rattle.std.specs.Prelude.{◌≡◌, ◌&&◌, ◌∷◌, ℕ, suc, cond, eqb, not, List, IsTrue};
-ghost use Rattle.teb_names.specs.declared.Spot.{Spot};
-ghost use Rattle.teb_history.specs.declared.Event.{Event};
-ghost use Rattle.teb_history.specs.Phases.{begun, begun_count};
+ghost use Rattle.teb_rules.specs.declared.names.Spot.{Spot};
+ghost use Rattle.teb_rules.specs.declared.history.Event.{Event};
+ghost use Rattle.teb_rules.specs.history.Phases.{begun, begun_count};
 ghost use Rattle.teb_rules.specs.Setup.{Setup};
 ghost use Rattle.teb_rules.specs.Tree.{row, has_batches, leaf, on, side_at};
 ghost use Rattle.teb_rules.specs.Verdicts.{wait_for};
 ghost use Rattle.teb_rules.specs.declared.Verdict.TheVariants.{Go};
 ghost use Rattle.teb_rules.specs.Stops.{on_begin};
-ghost use Rattle.teb_laws.specs.Lawful.{Lawful};
+ghost use Rattle.teb_rules.specs.laws.Lawful.{Lawful};
 ghost use Rattle.batch_book.specs.Book.{Book, has_joined, IsNew};
 ghost use Rattle.batch_book.specs.Histories.{IsNumbered, MayCome, Passes, BatchesOf, full_at};
 

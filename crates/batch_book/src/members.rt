@@ -2,13 +2,13 @@
 
 ghost use Rattle.std.specs.Prelude.{◌≡◌, ◌<◌, ◌≤◌, eqb, not, find, filter, length, vec_len, vec_capacity, None, ◌+◌, ◌-◌, ◌^◌};
 ghost use Rattle.std.specs.List.{All, list_any};
-ghost use Rattle.teb_history.specs.Ascending.{IsAscendingBy, place_of};
+ghost use Rattle.teb_rules.specs.history.Ascending.{IsAscendingBy, place_of};
 ghost use Rattle.batch_book.specs.declared.members.Member.{Member};
 ghost use Rattle.batch_book.specs.Fields.{batch_at, member_number, Entered, Has};
 ghost use Rattle.batch_book.specs.Settled.{IsSettled};
 
 use crate::settled::settled_before;
-use teb_names::Txn;
+use teb_rules::names::Txn;
 
 /// A transaction, its side, and the number of its batch.
 #[derive(Clone, Copy)]

@@ -1,12 +1,12 @@
 -- Forms of replies and events, and what they are read back as.
 use Rattle.std.proofs.Common.{◌≡◌, ◌==◌, ℤ, if◌then◌else◌, Option, Some, None, refl, sym, ap, ◌∙◌}
-use Rattle.teb_names.specs.declared.Cause.{Cause}
-use Rattle.teb_names.specs.declared.Cause.TheVariants as cause
-use Rattle.teb_names.specs.declared.Refusal.{Refusal}
-use Rattle.teb_names.specs.declared.Refusal.TheVariants as refusal
-use Rattle.teb_names.specs.declared.Reply.TheVariants as reply
-use Rattle.teb_history.specs.declared.Event.{Event}
-use Rattle.teb_history.specs.declared.Event.TheVariants as event
+use Rattle.teb_rules.specs.declared.names.Cause.{Cause}
+use Rattle.teb_rules.specs.declared.names.Cause.TheVariants as cause
+use Rattle.teb_rules.specs.declared.names.Refusal.{Refusal}
+use Rattle.teb_rules.specs.declared.names.Refusal.TheVariants as refusal
+use Rattle.teb_rules.specs.declared.names.Reply.TheVariants as reply
+use Rattle.teb_rules.specs.declared.history.Event.{Event}
+use Rattle.teb_rules.specs.declared.history.Event.TheVariants as event
 use Rattle.c_forms.specs.declared.events.EventForm.{EventForm}
 use Rattle.c_forms.specs.Causes.{cause_form, cause_in}
 use Rattle.c_forms.specs.Replies.{reply_in, refusal_number, refusal_in}

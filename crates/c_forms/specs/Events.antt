@@ -1,7 +1,7 @@
 -- Which form an event has.
 use Rattle.std.specs.Prelude.{ℕ, false, is_some, unwrap_or, pos}
-use Rattle.teb_history.specs.declared.Event.{Event}
-use Rattle.teb_history.specs.declared.Event.TheVariants as event
+use Rattle.teb_rules.specs.declared.history.Event.{Event}
+use Rattle.teb_rules.specs.declared.history.Event.TheVariants as event
 use Rattle.c_forms.specs.declared.events.EventForm.{EventForm}
 use Rattle.c_forms.specs.Causes.{no_cause, cause_form}
 

@@ -1,7 +1,7 @@
 -- That a form loses nothing.
 use Rattle.std.specs.Prelude.{◌≡◌, Some}
-use Rattle.teb_names.specs.declared.Reply.{Reply}
-use Rattle.teb_history.specs.declared.Event.{Event}
+use Rattle.teb_rules.specs.declared.names.Reply.{Reply}
+use Rattle.teb_rules.specs.declared.history.Event.{Event}
 use Rattle.c_forms.specs.Replies.{reply_form, reply_in}
 use Rattle.c_forms.specs.Events.{event_form}
 

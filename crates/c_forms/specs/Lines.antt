@@ -1,12 +1,12 @@
 -- The line of a form of a reply.
 use Rattle.std.specs.Prelude.{ℕ, Bool, true, ◌&&◌, nat_lt, if◌then◌else◌, List, length, Option, Some, None}
-use Rattle.teb_names.specs.declared.Cell.{Cell}
-use Rattle.teb_names.specs.declared.Node.{Node}
-use Rattle.teb_names.specs.declared.Cause.{Cause}
-use Rattle.teb_names.specs.declared.Cause.TheVariants as cause
-use Rattle.teb_names.specs.declared.Reply.{Reply}
-use Rattle.teb_names.specs.declared.Reply.TheVariants as reply
-use Rattle.teb_names.specs.declared.naming.NameBook.{NameBook}
+use Rattle.teb_rules.specs.declared.names.Cell.{Cell}
+use Rattle.teb_rules.specs.declared.names.Node.{Node}
+use Rattle.teb_rules.specs.declared.names.Cause.{Cause}
+use Rattle.teb_rules.specs.declared.names.Cause.TheVariants as cause
+use Rattle.teb_rules.specs.declared.names.Reply.{Reply}
+use Rattle.teb_rules.specs.declared.names.Reply.TheVariants as reply
+use Rattle.teb_rules.specs.declared.names.naming.NameBook.{NameBook}
 use Rattle.script_text.specs.Texts.{reply_text}
 use Rattle.c_forms.specs.declared.replies.ReplyForm.{ReplyForm}
 use Rattle.c_forms.specs.Replies.{reply_in}

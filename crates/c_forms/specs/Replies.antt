@@ -1,9 +1,9 @@
 -- Which form a reply has, and which reply a form is.
 use Rattle.std.specs.Prelude.{ℕ, ◌==◌, if◌then◌else◌, [], ◌∷◌, slice_get, Option, Some, None, option_map}
-use Rattle.teb_names.specs.declared.Refusal.{Refusal}
-use Rattle.teb_names.specs.declared.Refusal.TheVariants as refusal
-use Rattle.teb_names.specs.declared.Reply.{Reply}
-use Rattle.teb_names.specs.declared.Reply.TheVariants as reply
+use Rattle.teb_rules.specs.declared.names.Refusal.{Refusal}
+use Rattle.teb_rules.specs.declared.names.Refusal.TheVariants as refusal
+use Rattle.teb_rules.specs.declared.names.Reply.{Reply}
+use Rattle.teb_rules.specs.declared.names.Reply.TheVariants as reply
 use Rattle.c_forms.specs.declared.replies.ReplyForm.{ReplyForm}
 use Rattle.c_forms.specs.Causes.{no_cause, cause_form, cause_in}
 

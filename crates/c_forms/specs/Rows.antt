@@ -1,6 +1,6 @@
 -- The form of a row.
 use Rattle.std.specs.Prelude.{ℤ, List, map}
-use Rattle.teb_names.specs.declared.Cell.{Cell}
+use Rattle.teb_rules.specs.declared.names.Cell.{Cell}
 use Rattle.c_forms.specs.declared.rows.RowForm.{RowForm}
 
 abbrev pub row_form : Cell × ℤ → RowForm

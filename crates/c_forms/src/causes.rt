@@ -3,7 +3,7 @@
 ghost use Rattle.std.specs.Prelude.{◌≡◌};
 ghost use Rattle.c_forms.specs.Causes.{no_cause, cause_form as form, cause_in as read};
 
-use teb_names::{Cause, Cell, Node, Table, Txn};
+use teb_rules::names::{Cause, Cell, Node, Table, Txn};
 
 /// A cause as C has it. `why` is 1 to 7 in the order of `Cause`'s variants, or 0 if there is none. A field that the variant
 /// does not have is 0.

@@ -4,7 +4,7 @@ ghost use Rattle.std.specs.Prelude.{◌≡◌};
 ghost use Rattle.c_forms.specs.Events.{no_event, event_form as form};
 
 use crate::causes::{CauseForm, cause_form};
-use teb_history::Event;
+use teb_rules::history::Event;
 
 /// An event as C has it. `happened` is 1 to 7 in the order of `Event`'s variants. A field that the variant does not have is 0,
 /// and so is `value` unless `present`.

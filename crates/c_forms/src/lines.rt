@@ -8,7 +8,7 @@ ghost use Rattle.c_forms.specs.Lines.{line_in, is_node, is_cell, is_cause_named 
 use crate::replies::{ReplyForm, reply_in};
 use script_text::put_reply;
 use std::alloc::{AllocError, Global};
-use teb_names::{Cause, Cell, NameBook, Node, Reply, Session};
+use teb_rules::names::{Cause, Cell, NameBook, Node, Reply, Session};
 
 /// Returns the line of a reply to a session, or `None` if the form is that of no reply, or has a node or a table without a name.
 pub fn line_of(

@@ -5,7 +5,7 @@ ghost use Rattle.c_forms.specs.Replies.{blank, reply_form as form, reply_in as r
 
 use crate::causes::{CauseForm, cause_form, cause_in};
 use crate::values::ValueList;
-use teb_names::{Node, Refusal, Reply, Txn};
+use teb_rules::names::{Node, Refusal, Reply, Txn};
 
 /// A reply as C has it. `kind` is 1 to 9 in the order of `Reply`'s variants, and `refusal` is 1 to 11 in the order of
 /// `Refusal`'s. A field that the variant does not have is 0.

@@ -3,7 +3,7 @@
 ghost use Rattle.std.specs.Prelude.{◌≡◌};
 ghost use Rattle.c_forms.specs.Requests.{request_in as read};
 
-use teb_names::{Cell, Kind, Request, Spot, Table};
+use teb_rules::names::{Cell, Kind, Request, Spot, Table};
 
 /// A request as C has it. Each verb reads only its fields: 1 (begin) `kind` and `instance`; 2 (read) and 5 (delete) `table` and
 /// `key`; 3 (write) and 4 (add) also `value`; 6 (scan) also `count`; 7 (prepare), 8 (commit), 9 (abort) and 10 (end) none.

@@ -3,7 +3,7 @@
 ghost use Rattle.std.specs.Prelude.{◌≡◌};
 ghost use Rattle.c_forms.specs.Rows.{row_form as form};
 
-use teb_names::Cell;
+use teb_rules::names::Cell;
 
 /// A row as C has it.
 #[repr(C)]

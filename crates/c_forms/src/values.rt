@@ -3,7 +3,7 @@
 ghost use Rattle.std.specs.Prelude.{◌≡◌, ◌<◌, ◌≤◌, ◌++◌, ◌∷◌, [], length, slice_get, Some};
 
 use std::marker::Model;
-use teb_names::ScanList;
+use teb_rules::names::ScanList;
 
 /// At most sixteen values as C has them, each of a row or of none. The value of no row is 0, and so is each one after the last.
 /// Contracts see the list of optional values.
@@ -18,7 +18,7 @@ pub struct ValueList {
 impl Model for ValueList {
     ghost use Rattle.std.specs.Prelude.{List, Option, ℤ, ◌≤◌, ◌≡◌, length};
     ghost use Rattle.std.proofs.Common.{sym};
-    ghost use Rattle.teb_names.specs.Padding.{padded, held, numbers, flags};
+    ghost use Rattle.teb_rules.specs.names.Padding.{padded, held, numbers, flags};
 
     ghost Value = { List (Option ℤ) };
 
@@ -98,7 +98,7 @@ impl ValueList {
     }
 
     /// Returns the value at a place, from 0.
-    #[tactic(auto, using(teb_names::proofs::Padding::read_joined))]
+    #[tactic(auto, using(teb_rules::proofs::lemmas::names::Padding::read_joined))]
     pub fn at(&self, i: usize) -> Option<i64>
         requires { i < length self.now }
         ensures { slice_get self.now i ≡ Some result }

@@ -1,15 +1,15 @@
 -- Chains that hold the versions of a history: they are empty at the start, and unchanged after an event that changes no version.
 use Rattle.std.proofs.Common.{ℕ, ◌≡◌, true, false, List, [], ◌∷◌, refl, sym, subst, ◌∙◌}
-use Rattle.teb_names.specs.declared.Cell.{Cell}
-use Rattle.teb_history.specs.declared.Event.{Event}
-use Rattle.teb_history.specs.declared.Event.TheVariants.{Began, Got, Put, Ready, Done, Gone, Told}
-use Rattle.teb_history.specs.Phases.{is_gone}
-use Rattle.teb_history.specs.Accesses.{is_put, put_at, wrote}
-use Rattle.teb_history.specs.Positions.{first, first_event}
+use Rattle.teb_rules.specs.declared.names.Cell.{Cell}
+use Rattle.teb_rules.specs.declared.history.Event.{Event}
+use Rattle.teb_rules.specs.declared.history.Event.TheVariants.{Began, Got, Put, Ready, Done, Gone, Told}
+use Rattle.teb_rules.specs.history.Phases.{is_gone}
+use Rattle.teb_rules.specs.history.Accesses.{is_put, put_at, wrote}
+use Rattle.teb_rules.specs.history.Positions.{first, first_event}
 use Rattle.teb_rules.specs.Setup.{Setup}
 use Rattle.teb_rules.specs.Serializes.{In, Pairs}
-use Rattle.teb_laws.specs.TreeFacts.{TreeFacts}
-use Rattle.teb_laws.specs.Lawful.{Lawful}
+use Rattle.teb_rules.specs.laws.TreeFacts.{TreeFacts}
+use Rattle.teb_rules.specs.laws.Lawful.{Lawful}
 use Rattle.version_chain.specs.Lists.{Version, writers_of, is_writer}
 use Rattle.phase_api.specs.Versions.{HoldsVersions, HaveLastValues, has_version}
 use Rattle.candidate_reads.specs.Kept.{LeavesVersions}

@@ -1,22 +1,22 @@
 -- The node at which a writer and another transaction meet, and what its control says about the two.
 use Rattle.std.proofs.Common.{ℕ, ◌≡◌, ◌≢◌, ◌<◌, Bool, true, false, not, ◌&&◌, ltb, List, sym, subst, ◌∙◌, length, lt-ltb, ltb-true, ne_eqb, refl, inl, inr, arith}
 use Rattle.std.proofs.lemmas.Bool.{both_ways, cases_Bool, ltb-false}
-use Rattle.teb_names.specs.declared.Cell.{Cell}
-use Rattle.teb_names.specs.declared.ControlKind.{ControlKind}
-use Rattle.teb_names.specs.declared.ControlKind.TheVariants.{Timestamp}
-use Rattle.teb_history.specs.declared.Event.{Event}
-use Rattle.teb_history.specs.Phases.{aborted, begun, began_at, spot_of}
-use Rattle.teb_history.specs.Accesses.{wrote, put_at}
+use Rattle.teb_rules.specs.declared.names.Cell.{Cell}
+use Rattle.teb_rules.specs.declared.names.ControlKind.{ControlKind}
+use Rattle.teb_rules.specs.declared.names.ControlKind.TheVariants.{Timestamp}
+use Rattle.teb_rules.specs.declared.history.Event.{Event}
+use Rattle.teb_rules.specs.history.Phases.{aborted, begun, began_at, spot_of}
+use Rattle.teb_rules.specs.history.Accesses.{wrote, put_at}
 use Rattle.teb_rules.specs.Setup.{Setup}
 use Rattle.teb_rules.specs.Tree.{row, path, on_path, meet, meets, is_timestamp}
 use Rattle.teb_rules.specs.Versions.{precedes, orders, sees, sees_by}
-use Rattle.teb_laws.specs.TreeFacts.{TreeFacts}
-use Rattle.teb_laws.specs.Lawful.{Lawful}
-use Rattle.teb_laws.proofs.Meeting.{meets_exists}
-use Rattle.teb_laws.proofs.Nodes.{meet_is, meets_parts, on-among}
-use Rattle.teb_laws.proofs.Within.{path-below}
-use Rattle.teb_laws.proofs.Timeline.{kind-lt}
-use Rattle.teb_laws.proofs.VersionOrder.{precedes_at, orders_put, timestamp_is}
+use Rattle.teb_rules.specs.laws.TreeFacts.{TreeFacts}
+use Rattle.teb_rules.specs.laws.Lawful.{Lawful}
+use Rattle.teb_rules.proofs.lemmas.laws.Meeting.{meets_exists}
+use Rattle.teb_rules.proofs.lemmas.laws.Nodes.{meet_is, meets_parts, on-among}
+use Rattle.teb_rules.proofs.lemmas.laws.Within.{path-below}
+use Rattle.teb_rules.proofs.lemmas.laws.Timeline.{kind-lt}
+use Rattle.teb_rules.proofs.lemmas.laws.VersionOrder.{precedes_at, orders_put, timestamp_is}
 use Rattle.phase_api.specs.declared.facts.Facts.{Facts}
 use Rattle.phase_api.specs.FactsView.{setup_of, events_of, IsTyped}
 use Rattle.phase_api.specs.Calls.{IsPair}

@@ -1,27 +1,27 @@
 -- One more event: which transactions have a version, its value, and the version order.
 use Rattle.std.proofs.Common.{ℕ, ◌≡◌, ◌≢◌, ◌≤◌, ◌<◌, min, Bool, true, false, not, ◌||◌, ◌&&◌, eqb, List, [], ◌∷◌, Option, Some, refl, sym, ap, ap₂, subst, ◌∙◌, arith, inl, inr, ℤ, length, ltb-true, eq-eqb, eqb-true, ne_eqb}
 use Rattle.std.proofs.lemmas.Bool.{both_ways}
-use Rattle.teb_names.specs.declared.Cell.{Cell}
-use Rattle.teb_names.specs.declared.Txn.{Txn}
-use Rattle.teb_names.specs.declared.Cause.{Cause}
-use Rattle.teb_names.proofs.Bools.{and_true}
-use Rattle.teb_names.proofs.SameCells.{same_itself}
-use Rattle.teb_history.specs.declared.Event.{Event}
-use Rattle.teb_history.specs.declared.Event.TheVariants.{Put, Gone}
-use Rattle.teb_history.specs.Phases.{is_began, is_gone, began_at, aborted}
-use Rattle.teb_history.specs.Accesses.{is_put, put_at, wrote, last_put}
-use Rattle.teb_history.specs.Positions.{first, first_event, newest, upto}
-use Rattle.teb_history.proofs.Newest.{wrote-cons, aborted-cons}
+use Rattle.teb_rules.specs.declared.names.Cell.{Cell}
+use Rattle.teb_rules.specs.declared.names.Txn.{Txn}
+use Rattle.teb_rules.specs.declared.names.Cause.{Cause}
+use Rattle.teb_rules.proofs.lemmas.names.Bools.{and_true}
+use Rattle.teb_rules.proofs.lemmas.names.SameCells.{same_itself}
+use Rattle.teb_rules.specs.declared.history.Event.{Event}
+use Rattle.teb_rules.specs.declared.history.Event.TheVariants.{Put, Gone}
+use Rattle.teb_rules.specs.history.Phases.{is_began, is_gone, began_at, aborted}
+use Rattle.teb_rules.specs.history.Accesses.{is_put, put_at, wrote, last_put}
+use Rattle.teb_rules.specs.history.Positions.{first, first_event, newest, upto}
+use Rattle.teb_rules.proofs.lemmas.history.Newest.{wrote-cons, aborted-cons}
 use Rattle.teb_rules.specs.Setup.{Setup}
 use Rattle.teb_rules.specs.Serializes.{In, Pairs}
 use Rattle.teb_rules.specs.Versions.{precedes}
-use Rattle.teb_laws.specs.TreeFacts.{TreeFacts}
-use Rattle.teb_laws.specs.Lawful.{Lawful}
-use Rattle.teb_laws.proofs.Positions.{upto_all, upto_cons, first-upto}
-use Rattle.teb_laws.proofs.NodeFacts.{precedes-upto}
-use Rattle.teb_laws.proofs.ReadRule.{put_skip}
-use Rattle.teb_laws.proofs.Lists.{Pairs-weaker}
-use Rattle.teb_laws.proofs.VersionOrder.{precedes_irreflexive}
+use Rattle.teb_rules.specs.laws.TreeFacts.{TreeFacts}
+use Rattle.teb_rules.specs.laws.Lawful.{Lawful}
+use Rattle.teb_rules.proofs.lemmas.laws.Positions.{upto_all, upto_cons, first-upto}
+use Rattle.teb_rules.proofs.lemmas.laws.NodeFacts.{precedes-upto}
+use Rattle.teb_rules.proofs.lemmas.laws.ReadRule.{put_skip}
+use Rattle.teb_rules.proofs.lemmas.laws.Lists.{Pairs-weaker}
+use Rattle.teb_rules.proofs.lemmas.laws.VersionOrder.{precedes_irreflexive}
 use Rattle.version_chain.specs.Lists.{Version, writers_of}
 use Rattle.phase_api.specs.Versions.{has_version, HaveLastValues}
 use Rattle.candidate_reads.proofs.Shows.{version_parts}

@@ -4,21 +4,21 @@ use Rattle.std.specs.Option.{option_map}
 use Rattle.std.proofs.lemmas.Bool.{both_ways, cases_order, and_parts, and_from, or_cases, not-true, not_from_false}
 use Rattle.std.proofs.lemmas.Option.{slice_get_within, get_or_from_slice_get}
 use Rattle.std.proofs.lemmas.List.{length-map}
-use Rattle.teb_names.specs.declared.Cell.{Cell}
-use Rattle.teb_history.specs.declared.Event.{Event}
-use Rattle.teb_history.specs.Phases.{aborted, unfinished, begun_count}
-use Rattle.teb_history.specs.Accesses.{wrote}
+use Rattle.teb_rules.specs.declared.names.Cell.{Cell}
+use Rattle.teb_rules.specs.declared.history.Event.{Event}
+use Rattle.teb_rules.specs.history.Phases.{aborted, unfinished, begun_count}
+use Rattle.teb_rules.specs.history.Accesses.{wrote}
 use Rattle.teb_rules.specs.Setup.{Setup}
 use Rattle.teb_rules.specs.Serializes.{In, Pairs}
 use Rattle.teb_rules.specs.Versions.{precedes}
-use Rattle.teb_laws.specs.TreeFacts.{TreeFacts}
-use Rattle.teb_laws.specs.Lawful.{Lawful}
-use Rattle.teb_laws.specs.Laws.{IsWriter}
-use Rattle.teb_laws.proofs.Laws.{lawful_orders}
-use Rattle.teb_laws.proofs.Lists.{Pairs-weaker}
-use Rattle.teb_laws.proofs.Pigeons.{distinct-length}
-use Rattle.teb_laws.proofs.Timeline.{begun_counted}
-use Rattle.teb_laws.proofs.VersionOrder.{precedes_irreflexive}
+use Rattle.teb_rules.specs.laws.TreeFacts.{TreeFacts}
+use Rattle.teb_rules.specs.laws.Lawful.{Lawful}
+use Rattle.teb_rules.specs.laws.Laws.{IsWriter}
+use Rattle.teb_rules.proofs.lemmas.laws.Laws.{lawful_orders}
+use Rattle.teb_rules.proofs.lemmas.laws.Lists.{Pairs-weaker}
+use Rattle.teb_rules.proofs.lemmas.laws.Pigeons.{distinct-length}
+use Rattle.teb_rules.proofs.lemmas.laws.Timeline.{begun_counted}
+use Rattle.teb_rules.proofs.lemmas.laws.VersionOrder.{precedes_irreflexive}
 use Rattle.version_chain.specs.declared.chains.Found.{Found}
 use Rattle.version_chain.specs.Lists.{Version, writers_of, is_writer, first_place, last_place, own_or_last}
 use Rattle.version_chain.proofs.Places.{IsLast}

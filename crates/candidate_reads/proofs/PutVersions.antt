@@ -3,25 +3,25 @@ use Rattle.std.proofs.Common.{ℕ, ◌≡◌, ◌≢◌, ◌⊎◌, zero, suc, �
 use Rattle.std.proofs.lemmas.Bool.{both_ways, cases_Bool, false_from_ne_true}
 use Rattle.std.proofs.lemmas.Option.{slice_get-get_or}
 use Rattle.std.specs.List.{insert}
-use Rattle.teb_names.specs.declared.Cell.{Cell}
-use Rattle.teb_names.specs.declared.Txn.{Txn}
-use Rattle.teb_names.specs.Cells.{same_cell}
-use Rattle.teb_names.proofs.Bools.{and_false, or_true}
-use Rattle.teb_history.specs.declared.Event.{Event}
-use Rattle.teb_history.specs.declared.Event.TheVariants.{Put}
-use Rattle.teb_history.specs.Phases.{aborted, unfinished}
-use Rattle.teb_history.specs.Accesses.{is_put}
+use Rattle.teb_rules.specs.declared.names.Cell.{Cell}
+use Rattle.teb_rules.specs.declared.names.Txn.{Txn}
+use Rattle.teb_rules.specs.names.Cells.{same_cell}
+use Rattle.teb_rules.proofs.lemmas.names.Bools.{and_false, or_true}
+use Rattle.teb_rules.specs.declared.history.Event.{Event}
+use Rattle.teb_rules.specs.declared.history.Event.TheVariants.{Put}
+use Rattle.teb_rules.specs.history.Phases.{aborted, unfinished}
+use Rattle.teb_rules.specs.history.Accesses.{is_put}
 use Rattle.teb_rules.specs.Setup.{Setup, among}
 use Rattle.teb_rules.specs.Serializes.{In, Pairs}
 use Rattle.teb_rules.specs.Versions.{precedes}
-use Rattle.teb_laws.specs.TreeFacts.{TreeFacts}
-use Rattle.teb_laws.specs.Lawful.{Lawful}
-use Rattle.teb_laws.specs.Laws.{IsWriter}
-use Rattle.teb_laws.proofs.Cascades.{unfinished_times}
-use Rattle.teb_laws.proofs.Laws.{lawful_orders}
-use Rattle.teb_laws.proofs.ReadRule.{put_skip}
-use Rattle.teb_names.proofs.SameCells.{same_cell-true}
-use Rattle.teb_laws.proofs.VersionOrder.{precedes_irreflexive}
+use Rattle.teb_rules.specs.laws.TreeFacts.{TreeFacts}
+use Rattle.teb_rules.specs.laws.Lawful.{Lawful}
+use Rattle.teb_rules.specs.laws.Laws.{IsWriter}
+use Rattle.teb_rules.proofs.lemmas.laws.Cascades.{unfinished_times}
+use Rattle.teb_rules.proofs.lemmas.laws.Laws.{lawful_orders}
+use Rattle.teb_rules.proofs.lemmas.laws.ReadRule.{put_skip}
+use Rattle.teb_rules.proofs.lemmas.names.SameCells.{same_cell-true}
+use Rattle.teb_rules.proofs.lemmas.laws.VersionOrder.{precedes_irreflexive}
 use Rattle.version_chain.specs.Lists.{Version, writers_of, is_writer, set_value}
 use Rattle.version_chain.proofs.Cells.{same_cell-other}
 use Rattle.phase_api.specs.Versions.{HoldsVersions, HaveLastValues, IsPlaceOf, has_version}
@@ -30,8 +30,8 @@ use Rattle.candidate_reads.proofs.Shows.{version_parts}
 use Rattle.candidate_reads.proofs.Sources.{Strict, writer_began}
 use Rattle.candidate_reads.proofs.Placed.{unfinished_stands}
 use Rattle.candidate_reads.proofs.OneMore.{version_put, values_same, value_put, put_by_other, precedes_stays, order_stays}
-use Rattle.teb_history.specs.Accesses.{last_put}
-use Rattle.teb_laws.proofs.Lists.{Pairs-weaker}
+use Rattle.teb_rules.specs.history.Accesses.{last_put}
+use Rattle.teb_rules.proofs.lemmas.laws.Lists.{Pairs-weaker}
 use Rattle.candidate_reads.proofs.KeptVersions.{HoldsCell, cell_of, all_cells, have, cell_kept}
 
 -- a Put changes the versions of its cell only

@@ -1,10 +1,10 @@
 -- What a node shows follows from the answers of its control; a transaction with a version has put the cell and is not aborted.
 use Rattle.std.proofs.Common.{◌≡◌, ℕ, Bool, true, false, List, sym, ◌∙◌, refl}
 use Rattle.std.proofs.lemmas.Bool.{and_parts, not-true}
-use Rattle.teb_names.specs.declared.Cell.{Cell}
-use Rattle.teb_history.specs.declared.Event.{Event}
-use Rattle.teb_history.specs.Phases.{aborted}
-use Rattle.teb_history.specs.Accesses.{wrote}
+use Rattle.teb_rules.specs.declared.names.Cell.{Cell}
+use Rattle.teb_rules.specs.declared.history.Event.{Event}
+use Rattle.teb_rules.specs.history.Phases.{aborted}
+use Rattle.teb_rules.specs.history.Accesses.{wrote}
 use Rattle.teb_rules.specs.Setup.{Setup}
 use Rattle.teb_rules.specs.Tree.{row, meets}
 use Rattle.teb_rules.specs.Versions.{sees_by}

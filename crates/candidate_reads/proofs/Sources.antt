@@ -2,20 +2,20 @@
 use Rattle.std.proofs.Common.{ℕ, ◌≡◌, ◌⊎◌, zero, suc, ◌<◌, Bool, true, false, not, eqb, List, [], ◌∷◌, Option, Some, None, refl, sym, ap, subst, ◌∙◌, arith, inl, inr, length, get_or, filter, unwrap_or, ltb-true, ℤ, slice_get}
 use Rattle.std.proofs.lemmas.Bool.{both_ways, cases_order, and_from, not-true, not_from_false, false_from_ne_true}
 use Rattle.std.proofs.lemmas.Option.{get_or_from_slice_get}
-use Rattle.teb_names.specs.declared.Cell.{Cell}
-use Rattle.teb_names.specs.Rows.{row_of}
-use Rattle.teb_history.specs.declared.Event.{Event}
-use Rattle.teb_history.specs.Phases.{txns, begun, began_at, aborted}
-use Rattle.teb_history.specs.Accesses.{wrote, last_put}
+use Rattle.teb_rules.specs.declared.names.Cell.{Cell}
+use Rattle.teb_rules.specs.names.Rows.{row_of}
+use Rattle.teb_rules.specs.declared.history.Event.{Event}
+use Rattle.teb_rules.specs.history.Phases.{txns, begun, began_at, aborted}
+use Rattle.teb_rules.specs.history.Accesses.{wrote, last_put}
 use Rattle.teb_rules.specs.Setup.{Setup}
 use Rattle.teb_rules.specs.Serializes.{In, Pairs}
 use Rattle.teb_rules.specs.Versions.{precedes, sees, latest, source, version, read}
-use Rattle.teb_laws.specs.Lawful.{Lawful}
-use Rattle.teb_laws.proofs.Timeline.{put_order, begun_counted}
-use Rattle.teb_laws.proofs.Locks.{In-txns}
-use Rattle.teb_laws.proofs.Serial.{In-filter, filter-In}
-use Rattle.teb_laws.proofs.ReadRule.{list_all_at, list_all_from, sees_parts}
-use Rattle.teb_laws.proofs.VersionOrder.{precedes_irreflexive}
+use Rattle.teb_rules.specs.laws.Lawful.{Lawful}
+use Rattle.teb_rules.proofs.lemmas.laws.Timeline.{put_order, begun_counted}
+use Rattle.teb_rules.proofs.lemmas.laws.Locks.{In-txns}
+use Rattle.teb_rules.proofs.lemmas.laws.Serial.{In-filter, filter-In}
+use Rattle.teb_rules.proofs.lemmas.laws.ReadRule.{list_all_at, list_all_from, sees_parts}
+use Rattle.teb_rules.proofs.lemmas.laws.VersionOrder.{precedes_irreflexive}
 use Rattle.version_chain.specs.Lists.{Version, writers_of, first_place, last_place, own_or_last}
 use Rattle.version_chain.proofs.Places.{IsLast, last_place-found, own_or_last_cases}
 use Rattle.phase_api.specs.Versions.{HoldsVersions, HaveLastValues, has_version}

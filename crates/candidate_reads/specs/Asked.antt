@@ -1,12 +1,12 @@
 -- What is known when a version is asked for.
 use Rattle.std.specs.Prelude.{ℕ, List, IsTrue, IsFalse}
-use Rattle.teb_names.specs.declared.Cell.{Cell}
-use Rattle.teb_history.specs.declared.Event.{Event}
-use Rattle.teb_history.specs.Phases.{aborted, unfinished, spot_of}
+use Rattle.teb_rules.specs.declared.names.Cell.{Cell}
+use Rattle.teb_rules.specs.declared.history.Event.{Event}
+use Rattle.teb_rules.specs.history.Phases.{aborted, unfinished, spot_of}
 use Rattle.teb_rules.specs.Setup.{Setup}
 use Rattle.teb_rules.specs.Tree.{row, on_path, is_timestamp}
-use Rattle.teb_laws.specs.TreeFacts.{TreeFacts}
-use Rattle.teb_laws.specs.Lawful.{Lawful}
+use Rattle.teb_rules.specs.laws.TreeFacts.{TreeFacts}
+use Rattle.teb_rules.specs.laws.Lawful.{Lawful}
 use Rattle.phase_api.specs.declared.facts.Facts.{Facts}
 use Rattle.phase_api.specs.Standing.{StandAll}
 use Rattle.phase_api.specs.FactsView.{setup_of, events_of, IsTyped}

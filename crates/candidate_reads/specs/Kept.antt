@@ -1,6 +1,6 @@
 -- Events that change no version.
-use Rattle.teb_history.specs.declared.Event.{Event}
-use Rattle.teb_history.specs.declared.Event.TheVariants.{Put, Gone}
+use Rattle.teb_rules.specs.declared.history.Event.{Event}
+use Rattle.teb_rules.specs.declared.history.Event.TheVariants.{Put, Gone}
 
 -- the event adds no version, and removes none
 abbrev pub LeavesVersions : Event → Type 0

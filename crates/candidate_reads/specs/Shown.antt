@@ -1,7 +1,7 @@
 -- What the nodes of a path show to a reader.
 use Rattle.std.specs.Prelude.{ℕ, Bool, ◌&&◌, max, List, Option, Some, None}
-use Rattle.teb_names.specs.declared.Cell.{Cell}
-use Rattle.teb_history.specs.declared.Event.{Event}
+use Rattle.teb_rules.specs.declared.names.Cell.{Cell}
+use Rattle.teb_rules.specs.declared.history.Event.{Event}
 use Rattle.teb_rules.specs.Setup.{Setup}
 use Rattle.teb_rules.specs.Tree.{row, meets}
 use Rattle.teb_rules.specs.Versions.{sees_by}

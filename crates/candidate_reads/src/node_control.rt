@@ -2,13 +2,13 @@
 
 ghost use Rattle.std.specs.Prelude.{◌≡◌, ◌≢◌, ◌<◌, length, IsTrue};
 ghost use Rattle.teb_rules.specs.Tree.{meets};
-ghost use Rattle.teb_laws.specs.TreeFacts.{TreeFacts};
-ghost use Rattle.teb_laws.specs.Lawful.{Lawful};
+ghost use Rattle.teb_rules.specs.laws.TreeFacts.{TreeFacts};
+ghost use Rattle.teb_rules.specs.laws.Lawful.{Lawful};
 ghost use Rattle.phase_api.specs.Standing.{StandAll};
 ghost use Rattle.phase_api.specs.FactsView.{setup_of, events_of, IsTyped};
 
 use phase_api::{Control, Facts};
-use teb_names::{Node, Txn};
+use teb_rules::names::{Node, Txn};
 
 /// Returns the control of a node, of the controls of all nodes.
 pub fn control_at<'a, K: Control>(controls: &'a [K], facts: &Facts, n: Node) -> &'a K

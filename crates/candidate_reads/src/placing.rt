@@ -2,10 +2,10 @@
 
 ghost use Rattle.std.specs.Prelude.{◌≡◌, ◌≤◌, slice_get, Some, IfSome, IsTrue, IsFalse};
 ghost use Rattle.std.specs.Option.{option_map};
-ghost use Rattle.teb_history.specs.Phases.{aborted};
+ghost use Rattle.teb_rules.specs.history.Phases.{aborted};
 ghost use Rattle.teb_rules.specs.Versions.{precedes};
-ghost use Rattle.teb_laws.specs.TreeFacts.{TreeFacts};
-ghost use Rattle.teb_laws.specs.Lawful.{Lawful};
+ghost use Rattle.teb_rules.specs.laws.TreeFacts.{TreeFacts};
+ghost use Rattle.teb_rules.specs.laws.Lawful.{Lawful};
 ghost use Rattle.version_chain.specs.Lists.{writers_of, is_writer, own_or_last};
 ghost use Rattle.phase_api.specs.FactsView.{setup_of, events_of, IsTyped};
 ghost use Rattle.phase_api.specs.Calls.{Writes};
@@ -16,7 +16,7 @@ ghost use Rattle.candidate_reads.specs.Places.{place_from};
 
 use crate::node_control::control_between;
 use phase_api::{Control, Facts};
-use teb_names::{Cell, ControlKind, Txn};
+use teb_rules::names::{Cell, ControlKind, Txn};
 use version_chain::{Chains, Found};
 
 /// A place in the chain of a cell for the version of a transaction.

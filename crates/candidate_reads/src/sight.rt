@@ -1,14 +1,14 @@
 //! What a node shows to a reader.
 
 ghost use Rattle.std.specs.Prelude.{◌≡◌, IsTrue, IsFalse};
-ghost use Rattle.teb_history.specs.Phases.{aborted};
+ghost use Rattle.teb_rules.specs.history.Phases.{aborted};
 ghost use Rattle.version_chain.specs.Lists.{writers_of, last_place};
 ghost use Rattle.phase_api.specs.FactsView.{setup_of, events_of, IsTyped};
 ghost use Rattle.phase_api.specs.Versions.{HoldsVersions, has_version};
 ghost use Rattle.candidate_reads.specs.Shown.{shows, later};
 
 use phase_api::{Control, Facts};
-use teb_names::{Cell, Txn};
+use teb_rules::names::{Cell, Txn};
 use version_chain::Chains;
 
 /// Returns the place of the last version that the leaf of t lets it see, among writers that meet t there; `None` if there is no such

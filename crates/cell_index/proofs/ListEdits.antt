@@ -3,11 +3,11 @@ use Rattle.std.proofs.Common.{◌≡◌, ℕ, ◌<◌, Bool, true, false, cond, 
 use Rattle.std.specs.List.{list_any, IsDistinct}
 use Rattle.std.proofs.lemmas.Map.Keys.{IsDistinct-push}
 use Rattle.std.proofs.Math.ListN.{length-set}
-use Rattle.teb_names.specs.declared.Cell.{Cell}
-use Rattle.teb_names.specs.Cells.{same_cell}
+use Rattle.teb_rules.specs.declared.names.Cell.{Cell}
+use Rattle.teb_rules.specs.names.Cells.{same_cell}
 use Rattle.cell_index.specs.Cells.{place_in, with_cell, with_place}
 use Rattle.cell_index.specs.Lists.{list_for}
-use Rattle.teb_names.proofs.SameCells.{same_cell-true, same_laws}
+use Rattle.teb_rules.proofs.lemmas.names.SameCells.{same_cell-true, same_laws}
 use Rattle.cell_index.proofs.Places.{decided, place_none, place_absent, same_place, with_known, with_new, put_place, put_length}
 use Rattle.cell_index.proofs.Lists.{set_tells, list_with_place, length-with_place, grown}
 

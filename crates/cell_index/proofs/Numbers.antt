@@ -7,14 +7,14 @@ use Rattle.std.specs.Option.{option_map_or}
 use Rattle.std.proofs.lemmas.Bool.Decides.{nat_tests}
 use Rattle.std.proofs.lemmas.List.Folds.{list_any-append, position_or_len_push}
 use Rattle.indexmap.specs.IndexMap.{IndexMap, spare}
-use Rattle.teb_names.specs.declared.Cell.{Cell}
-use Rattle.teb_names.specs.Cells.{same_cell}
+use Rattle.teb_rules.specs.declared.names.Cell.{Cell}
+use Rattle.teb_rules.specs.names.Cells.{same_cell}
 use Rattle.cell_index.specs.declared.blocks.Owner.{Owner}
 use Rattle.cell_index.specs.declared.blocks.Blocks.{Blocks}
 use Rattle.cell_index.specs.Blocks.{keys, owner_of, has_cell, entry_by, number_or, IsPaged}
 use Rattle.cell_index.specs.Cells.{place_in}
 use Rattle.cell_index.specs.Index.{number_in, far_number, IsIndex}
-use Rattle.teb_names.proofs.SameCells.{same_cell-true, same_laws}
+use Rattle.teb_rules.proofs.lemmas.names.SameCells.{same_cell-true, same_laws}
 use Rattle.cell_index.proofs.Places.{decided, place_none, place_some, put_distinct}
 
 abbrev number_at : List Cell → Cell → Bool → ℕ

@@ -4,7 +4,7 @@ use Rattle.std.specs.Prelude.{is_none, count_by, IfSome, vec_capacity}
 use Rattle.std.proofs.lemmas.Bool.{cases_lt}
 use Rattle.std.proofs.lemmas.List.{get_or-replicate, get_or_past, take_all, length-replicate}
 use Rattle.std.proofs.lemmas.List.Sums.{count_by-le-length, sum_by-append}
-use Rattle.teb_names.specs.declared.Cell.{Cell}
+use Rattle.teb_rules.specs.declared.names.Cell.{Cell}
 use Rattle.cell_index.specs.declared.blocks.Owner.{Owner}
 use Rattle.cell_index.specs.declared.blocks.Blocks.{Blocks}
 use Rattle.cell_index.specs.Blocks.{keys, slots, slot_of, entry_by, entry_of, IsPaged}

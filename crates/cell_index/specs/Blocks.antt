@@ -1,8 +1,8 @@
 -- Numbers of cells, by blocks of consecutive keys: a block that has its slot has a page, with an entry for each of its cells.
 use Rattle.std.specs.Prelude.{◌≡◌, ℕ, ◌+◌, ◌*◌, ◌/◌, ◌%◌, ◌<◌, ◌≤◌, Bool, ◌&&◌, eqb, length, get_or, Option, Some, None, is_none, count_by, IfSome, IsTrue, if◌then◌else◌, vec_capacity}
 use Rattle.std.specs.Option.{option_map_or}
-use Rattle.teb_names.specs.declared.Cell.{Cell}
-use Rattle.teb_names.specs.Cells.{same_cell}
+use Rattle.teb_rules.specs.declared.names.Cell.{Cell}
+use Rattle.teb_rules.specs.names.Cells.{same_cell}
 use Rattle.cell_index.specs.declared.blocks.Owner.{Owner}
 use Rattle.cell_index.specs.declared.blocks.Blocks.{Blocks}
 

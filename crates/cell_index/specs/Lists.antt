@@ -1,6 +1,6 @@
 -- Lists by the places of their cells.
 use Rattle.std.specs.Prelude.{List, [], get_or}
-use Rattle.teb_names.specs.declared.Cell.{Cell}
+use Rattle.teb_rules.specs.declared.names.Cell.{Cell}
 use Rattle.cell_index.specs.Cells.{place_in}
 
 -- the list of x; empty if it has none

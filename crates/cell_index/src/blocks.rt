@@ -1,12 +1,12 @@
 //! Numbers of cells, by blocks of consecutive keys.
 
 ghost use Rattle.std.specs.Prelude.{◌≡◌, ◌<◌, ◌≤◌, ℕ, length, Some, None, IsTrue, OnOk, if◌then◌else◌};
-ghost use Rattle.teb_names.specs.declared.Cell.{Cell};
-ghost use Rattle.teb_names.specs.Cells.{same_cell};
+ghost use Rattle.teb_rules.specs.declared.names.Cell.{Cell};
+ghost use Rattle.teb_rules.specs.names.Cells.{same_cell};
 ghost use Rattle.cell_index.specs.Blocks.{slots, slot_of as spec_slot_of, owner_of, has_cell, number_or, IsPaged};
 
 use std::alloc::{AllocError, Global};
-use teb_names::{Cell, Table};
+use teb_rules::names::{Cell, Table};
 
 /// How many consecutive keys make a block.
 const KEYS_TO_A_BLOCK: u32 = 128;

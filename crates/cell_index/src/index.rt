@@ -3,8 +3,8 @@
 ghost use Rattle.std.specs.Prelude.{◌≡◌, ◌≢◌, None, ◌<◌, ◌≤◌, ◌+◌, [], length, OnOk, if◌then◌else◌};
 ghost use Rattle.std.specs.List.{IsDistinct};
 ghost use Rattle.indexmap.specs.IndexMap.{spare as map_spare};
-ghost use Rattle.teb_names.specs.declared.Cell.{Cell};
-ghost use Rattle.teb_names.specs.Cells.{same_cell};
+ghost use Rattle.teb_rules.specs.declared.names.Cell.{Cell};
+ghost use Rattle.teb_rules.specs.names.Cells.{same_cell};
 ghost use Rattle.cell_index.specs.Blocks.{slots, owner_of, number_or, IsPaged};
 ghost use Rattle.cell_index.specs.Cells.{place_in, with_cell};
 ghost use Rattle.cell_index.specs.Index.{number_in, far_number};
@@ -13,8 +13,8 @@ use crate::blocks::Blocks;
 use indexmap::IndexMap;
 use std::alloc::{AllocError, Global};
 use std::marker::Model;
-use teb_names::Cell;
-use vec_room::make_wide_room;
+use teb_rules::names::Cell;
+use teb_rules::vectors::make_wide_room;
 
 /// Cells, each with its place: how many cells had been added before it.
 ///

@@ -5,8 +5,8 @@ use Rattle.std.proofs.lemmas.List.{get_or_read_under}
 use Rattle.std.proofs.Math.ListN.{get_or-eq_default}
 use Rattle.std.specs.List.{zip, list_any}
 use Rattle.std.specs.Map.{lookup}
-use Rattle.teb_names.specs.declared.Cell.{Cell}
-use Rattle.teb_names.specs.Cells.{same_cell}
+use Rattle.teb_rules.specs.declared.names.Cell.{Cell}
+use Rattle.teb_rules.specs.names.Cells.{same_cell}
 use Rattle.version_chain.proofs.Cells.{same_cell-itself, same_cell-exact, same_cell-other}
 use Rattle.cell_index.specs.Cells.{place_in, with_cell}
 use Rattle.chain_pool.specs.declared.places.Chain.{Chain}

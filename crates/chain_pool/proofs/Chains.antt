@@ -2,8 +2,8 @@
 use Rattle.std.proofs.Common.{true, false, Bool, eqb, not, ◌≡◌, ◌≢◌, ℕ, zero, suc, ◌<◌, ◌≤◌, List, [], ◌∷◌, length, get_or, map, filter, refl, sym, ◌∙◌, ap, subst, arith, Option, Some, None, IfSome, MatchOption, eqb-true, ne_eqb, slice_get, IsTrue}
 use Rattle.std.proofs.lemmas.Bool.{false_from_ne_true, le-leb}
 use Rattle.std.proofs.lemmas.List.{get_or-map, length-map}
-use Rattle.teb_names.specs.declared.Cell.{Cell}
-use Rattle.teb_names.specs.declared.Txn.{Txn}
+use Rattle.teb_rules.specs.declared.names.Cell.{Cell}
+use Rattle.teb_rules.specs.declared.names.Txn.{Txn}
 use Rattle.version_chain.specs.Lists.{Version, without, writers_of, is_writer, first_place, last_place, unless_below}
 use Rattle.version_chain.specs.declared.chains.Found.{Found}
 use Rattle.version_chain.proofs.Places.{IsLast, first_place_is, last_place-found, writer_at, length-writers, is_writer-at, last_where_is, first_of_writer}

@@ -1,8 +1,8 @@
 -- A writer without an entry: the links are sound with the list that was taken out, and without it once it is empty.
 use Rattle.std.proofs.Common.{true, false, Bool, cond, ◌≡◌, ◌<◌, List, refl, sym, ◌∙◌, ap, subst, inl, inr, if◌then◌else◌, Option, Some, None, unwrap_or, IfSome}
 use Rattle.std.specs.Map.{lookup}
-use Rattle.teb_names.specs.declared.Cell.{Cell}
-use Rattle.teb_names.specs.declared.Txn.{Txn}
+use Rattle.teb_rules.specs.declared.names.Cell.{Cell}
+use Rattle.teb_rules.specs.declared.names.Txn.{Txn}
 use Rattle.chain_pool.specs.declared.places.Place.{Place}
 use Rattle.chain_pool.specs.declared.places.Head.{Head}
 use Rattle.chain_pool.specs.Threads.{Thread}

@@ -3,9 +3,9 @@ use Rattle.std.proofs.Common.{true, false, Bool, eqb, cond, not, ◌≡◌, ◌=
 use Rattle.std.specs.List.{remove}
 use Rattle.std.proofs.lemmas.Bool.{cases_eq}
 use Rattle.std.proofs.lemmas.List.{get_or-map, length-map}
-use Rattle.teb_names.specs.declared.Cell.{Cell}
-use Rattle.teb_names.specs.declared.Txn.{Txn}
-use Rattle.teb_names.specs.Cells.{same_cell}
+use Rattle.teb_rules.specs.declared.names.Cell.{Cell}
+use Rattle.teb_rules.specs.declared.names.Txn.{Txn}
+use Rattle.teb_rules.specs.names.Cells.{same_cell}
 use Rattle.version_chain.specs.Lists.{Version, without}
 use Rattle.version_chain.proofs.Cells.{same_cell-itself, same_cell-exact}
 use Rattle.chain_pool.specs.declared.places.Place.{Place}

@@ -1,6 +1,6 @@
 -- Cells and transactions as keys: two keys are equal or different.
 use Rattle.std.proofs.Common.{true, false, Bool, ◌≡◌, ◌≢◌, ◌⊎◌, ℕ, refl, sym, ◌∙◌, ap, inl, inr, eq-eqb, eqb-true}
-use Rattle.teb_names.specs.declared.Txn.{Txn}
+use Rattle.teb_rules.specs.declared.names.Txn.{Txn}
 use Rattle.chain_pool.specs.Heads.{same_txn}
 use Rattle.cell_index.proofs.Places.{decided}
 

@@ -1,7 +1,7 @@
 -- Lookups of a key's head as entries change.
 use Rattle.std.proofs.Common.{true, false, Bool, cond, ◌≡◌, ◌<◌, List, [], ◌∷◌, map, refl, sym, ap, subst, if◌then◌else◌, Option, Some, unwrap_or, IfSome}
 use Rattle.std.specs.Map.{lookup}
-use Rattle.teb_names.specs.declared.Txn.{Txn}
+use Rattle.teb_rules.specs.declared.names.Txn.{Txn}
 use Rattle.chain_pool.specs.declared.places.Head.{Head}
 use Rattle.chain_pool.specs.Heads.{IsBusy, same_txn, with_head}
 use Rattle.chain_pool.proofs.Keys.{same_txn-itself}

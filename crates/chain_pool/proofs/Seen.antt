@@ -1,7 +1,7 @@
 -- A pool as contracts see it.
 use Rattle.std.proofs.Common.{true, false, ◌≡◌, ◌≢◌, ℕ, ◌≤◌, sym, ◌∙◌, ap, arith, IsFalse}
-use Rattle.teb_names.specs.declared.Cell.{Cell}
-use Rattle.teb_names.specs.Cells.{same_cell}
+use Rattle.teb_rules.specs.declared.names.Cell.{Cell}
+use Rattle.teb_rules.specs.names.Cells.{same_cell}
 use Rattle.version_chain.proofs.Cells.{same_cell-itself}
 use Rattle.chain_pool.specs.declared.places.Chain.{Chain}
 use Rattle.chain_pool.specs.declared.pool.Pool.{Pool}

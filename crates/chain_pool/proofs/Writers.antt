@@ -2,8 +2,8 @@
 use Rattle.std.proofs.Common.{true, false, Bool, IsTrue, ◌↔◌, cond, not, eqb, ne_eqb, ◌||◌, ◌≡◌, ◌≢◌, ℕ, zero, suc, List, [], ◌∷◌, insert, refl, sym, ◌∙◌, ap, subst, Option, None, ℤ}
 use Rattle.std.proofs.lemmas.Bool.{or_from, or_parts}
 use Rattle.std.specs.Bool.{OnTrue}
-use Rattle.teb_names.specs.declared.Cell.{Cell}
-use Rattle.teb_names.specs.Cells.{same_cell}
+use Rattle.teb_rules.specs.declared.names.Cell.{Cell}
+use Rattle.teb_rules.specs.names.Cells.{same_cell}
 use Rattle.version_chain.specs.Lists.{Version, writers_of, is_writer, first_place, next_place, set_value, without}
 use Rattle.version_chain.proofs.Cells.{same_cell-exact}
 use Rattle.chain_pool.proofs.Seen.{apart_from}

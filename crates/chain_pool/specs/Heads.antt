@@ -1,9 +1,9 @@
 -- Heads of lists, by key.
 use Rattle.std.specs.Prelude.{◌<◌, ℕ, ◌-◌, ◌==◌, Bool, List, [], ◌∷◌, ◌++◌, length, eqb, if◌then◌else◌, unwrap_or, IfSome}
 use Rattle.std.specs.Map.{lookup}
-use Rattle.teb_names.specs.declared.Cell.{Cell}
-use Rattle.teb_names.specs.declared.Txn.{Txn}
-use Rattle.teb_names.specs.Cells.{same_cell}
+use Rattle.teb_rules.specs.declared.names.Cell.{Cell}
+use Rattle.teb_rules.specs.declared.names.Txn.{Txn}
+use Rattle.teb_rules.specs.names.Cells.{same_cell}
 use Rattle.chain_pool.specs.declared.places.Head.{Head}
 use Rattle.chain_pool.specs.declared.places.Chain.{Chain}
 

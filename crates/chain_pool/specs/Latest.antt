@@ -1,6 +1,6 @@
 -- The greatest writer of each mark.
 use Rattle.std.specs.Prelude.{ℕ, ◌<◌, ◌+◌, ◌*◌, ◌%◌, List, length, slice_index}
-use Rattle.teb_names.specs.declared.Cell.{Cell}
+use Rattle.teb_rules.specs.declared.names.Cell.{Cell}
 
 -- the mark that a writer and a cell have, by the remainder of the writer and that of the cell's key
 abbrev pub mark_of : ℕ → Cell → ℕ

@@ -1,7 +1,7 @@
 -- What a place holds, and to which lists it belongs.
 use Rattle.std.specs.Prelude.{◌≡◌, ℕ, ◌<◌, List, length, slice_index_or, Option, Some, None, ℤ, unwrap_or, option_map}
-use Rattle.teb_names.specs.declared.Cell.{Cell}
-use Rattle.teb_names.specs.declared.Txn.{Txn}
+use Rattle.teb_rules.specs.declared.names.Cell.{Cell}
+use Rattle.teb_rules.specs.declared.names.Txn.{Txn}
 use Rattle.chain_pool.specs.declared.places.Version.{Version}
 use Rattle.chain_pool.specs.declared.places.Content.{Content}
 use Rattle.chain_pool.specs.declared.places.Content.TheVariants.{Free, Deleted, Value}

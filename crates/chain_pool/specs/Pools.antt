@@ -1,6 +1,6 @@
 -- A whole pool.
 use Rattle.std.specs.Prelude.{ℕ, ◌+◌, ◌<◌, ◌≤◌, ◌^◌, List, vec_len, vec_capacity}
-use Rattle.teb_names.specs.declared.Cell.{Cell}
+use Rattle.teb_rules.specs.declared.names.Cell.{Cell}
 use Rattle.version_chain.specs.Lists.{Version}
 use Rattle.indexmap.specs.IndexMap.{spare}
 use Rattle.chain_pool.specs.declared.pool.Pool.{Pool}

@@ -1,8 +1,8 @@
 -- What contracts see of a pool: its chains, and room; and what is kept of it.
 use Rattle.std.specs.Prelude.{◌≡◌, ℕ, false, List, [], map, unwrap_or}
 use Rattle.std.specs.Map.{lookup}
-use Rattle.teb_names.specs.declared.Cell.{Cell}
-use Rattle.teb_names.specs.Cells.{same_cell}
+use Rattle.teb_rules.specs.declared.names.Cell.{Cell}
+use Rattle.teb_rules.specs.names.Cells.{same_cell}
 use Rattle.version_chain.specs.Lists.{Version, is_writer}
 use Rattle.chain_pool.specs.declared.pool.Pool.{Pool}
 use Rattle.chain_pool.specs.Linked.{versions}

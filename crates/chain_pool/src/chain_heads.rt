@@ -1,16 +1,16 @@
 //! The chain of each cell: its first and its last place.
 
 ghost use Rattle.std.specs.Prelude.{◌≡◌, ◌==◌, ◌<◌, ◌≤◌, ◌+◌, ◌^◌, [], vec_len, vec_capacity, OnOk, if◌then◌else◌};
-ghost use Rattle.teb_names.specs.declared.Cell.{Cell};
-ghost use Rattle.teb_names.specs.Cells.{same_cell};
+ghost use Rattle.teb_rules.specs.declared.names.Cell.{Cell};
+ghost use Rattle.teb_rules.specs.names.Cells.{same_cell};
 ghost use Rattle.chain_pool.specs.Heads.{with_next, chain_head, last_of, without_place, last_without};
 
 use crate::places::{Chain, Head, NO_CHAIN};
 use cell_index::CellIndex;
 use std::alloc::{AllocError, Global};
 use std::marker::Model;
-use teb_names::Cell;
-use vec_room::make_wide_room;
+use teb_rules::names::Cell;
+use teb_rules::vectors::make_wide_room;
 
 /// Each cell's chain, at the place that an index gives the cell.
 #[derive(Drop)]

@@ -3,10 +3,10 @@
 //! that has put no cell of that remainder: only a later writer of the same remainder may have put one before it.
 
 ghost use Rattle.std.specs.Prelude.{ℕ, ◌≡◌, ◌↔◌, IsTrue};
-ghost use Rattle.teb_names.specs.declared.Cell.{Cell};
+ghost use Rattle.teb_rules.specs.declared.names.Cell.{Cell};
 ghost use Rattle.chain_pool.specs.Latest.{IsAbove, mark_of as spec_mark_of};
 
-use teb_names::{Cell, Txn};
+use teb_rules::names::{Cell, Txn};
 
 /// The number of remainders of writers: twice the number of sessions.
 const WRITERS: usize = 64;

@@ -1,11 +1,11 @@
 //! Places, and the steps that write them.
 
 ghost use Rattle.std.specs.Prelude.{◌≡◌, ◌<◌, ◌==◌, ℕ, length, if◌then◌else◌, IsSome, None, Some};
-ghost use Rattle.teb_names.specs.declared.Cell.{Cell};
-ghost use Rattle.teb_names.specs.declared.Txn.{Txn};
+ghost use Rattle.teb_rules.specs.declared.names.Cell.{Cell};
+ghost use Rattle.teb_rules.specs.declared.names.Txn.{Txn};
 ghost use Rattle.chain_pool.specs.Places.{place_at, slot_of, version_of, slot_at, next_at, previous_at, with_value};
 
-use teb_names::{Cell, Table, Txn};
+use teb_rules::names::{Cell, Table, Txn};
 
 /// A version with its cell.
 #[derive(Clone, Copy)]

@@ -4,8 +4,8 @@ ghost use Rattle.std.specs.Prelude.{◌≡◌, ◌<◌, ◌≤◌, ◌+◌, ◌^
 ghost use Rattle.std.specs.Option.{option_map};
 ghost use Rattle.std.specs.Bool.{OnTrue};
 ghost use Rattle.indexmap.specs.IndexMap.{spare};
-ghost use Rattle.teb_names.specs.declared.Cell.{Cell};
-ghost use Rattle.teb_names.specs.declared.Txn.{Txn};
+ghost use Rattle.teb_rules.specs.declared.names.Cell.{Cell};
+ghost use Rattle.teb_rules.specs.declared.names.Txn.{Txn};
 ghost use Rattle.version_chain.specs.Lists.{without, set_value, writers_of, is_writer, first_place, last_place, unless_below, own_or_last as spec_own_or_last};
 ghost use Rattle.chain_pool.specs.Places.{InChain, IsOwned};
 ghost use Rattle.chain_pool.specs.Heads.{IsBusy, chain_head, last_of, writer_head, with_head};
@@ -17,8 +17,8 @@ use crate::places::{self, BLANK, Chain, EMPTY, Head, Place, Version};
 use crate::{walks, writer_heads};
 use indexmap::IndexMap;
 use std::alloc::{AllocError, Global};
-use teb_names::{Cell, Txn};
-use vec_room::make_wide_room;
+use teb_rules::names::{Cell, Txn};
+use teb_rules::vectors::make_wide_room;
 use version_chain::Found;
 
 /// A chain up to this length costs less to walk than its writer's list to look up.

@@ -1,7 +1,7 @@
 //! Chains in a pool of places.
 
 ghost use Rattle.std.specs.Prelude.{◌≡◌, []};
-ghost use Rattle.teb_names.specs.declared.Cell.{Cell};
+ghost use Rattle.teb_rules.specs.declared.names.Cell.{Cell};
 ghost use Rattle.chain_pool.specs.View.{list_in};
 
 use crate::latest::{self, MARKS};
@@ -9,7 +9,7 @@ use crate::places::Version;
 use crate::pool::Pool;
 use std::alloc::{AllocError, Global};
 use std::marker::Model;
-use teb_names::{Cell, Txn};
+use teb_rules::names::{Cell, Txn};
 use version_chain::{Chains, Found};
 
 /// Versions by cell, each linked by index into its cell's chain and its writer's list. A cell is found by its place in an index

@@ -8,7 +8,7 @@ ghost use Rattle.chain_pool.specs.Places.{slot_at, previous_at, sibling_at, cell
 ghost use Rattle.chain_pool.specs.Linked.{nth_place};
 
 use crate::places::{self, Chain, Head, Place};
-use teb_names::{Cell, Txn};
+use teb_rules::names::{Cell, Txn};
 use version_chain::Found;
 
 /// Returns the place that many steps back.

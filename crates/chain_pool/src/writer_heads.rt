@@ -2,12 +2,12 @@
 
 ghost use Rattle.std.specs.Prelude.{◌≡◌, ◌<◌, ◌≤◌, ◌+◌, ◌^◌, if◌then◌else◌};
 ghost use Rattle.indexmap.specs.IndexMap.{spare};
-ghost use Rattle.teb_names.specs.declared.Txn.{Txn};
+ghost use Rattle.teb_rules.specs.declared.names.Txn.{Txn};
 ghost use Rattle.chain_pool.specs.Heads.{writer_head, same_txn, IsBusy};
 
 use crate::places::{EMPTY, Head};
 use indexmap::IndexMap;
-use teb_names::Txn;
+use teb_rules::names::Txn;
 
 /// Returns the head of a writer's list.
 #[inline(always)]

@@ -1,7 +1,7 @@
 -- What a command shows: a status, a text, and the history where there was a run.
 use Rattle.std.specs.Prelude.{◌≢◌, ℕ, List, [], ◌∷◌, ◌++◌, Option, None, option_map}
-use Rattle.teb_history.specs.declared.Event.{Event}
-use Rattle.teb_history.specs.Written.{Written}
+use Rattle.teb_rules.specs.declared.history.Event.{Event}
+use Rattle.teb_rules.specs.history.Written.{Written}
 
 pub record Shown : Type 0 where
   pub status : ℕ

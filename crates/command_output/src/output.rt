@@ -6,7 +6,7 @@ ghost use Rattle.command_output.specs.Shown.{line_alone, events_of, IsShowable};
 use itoa::Buffer;
 use std::alloc::{AllocError, Global};
 use std::marker::Model;
-use teb_history::History;
+use teb_rules::history::History;
 
 /// The output of a command: a status, a text, and the history of the run, if there was one.
 #[derive(Drop)]

@@ -1,23 +1,23 @@
 -- At each node, a Commit waits for the lowest-numbered of the transactions that the gate names and the unfinished sources that it meets there.
 use Rattle.std.proofs.Common.{◌≡◌, ◌<◌, ℕ, zero, suc, Bool, true, false, cond, ◌&&◌, ◌||◌, eqb, ltb, min, List, length, [], ◌∷◌, get_or, find, Option, Some, None, refl, sym, ◌∙◌, ap, inl, inr, arith, lt-ltb}
 use Rattle.std.proofs.lemmas.Bool.{and_parts, cases_lt, ltb-true, le-ltb, eq-eqb, or_left, or_right}
-use Rattle.teb_names.specs.declared.Node.{Node}
-use Rattle.teb_names.specs.declared.Txn.{Txn}
-use Rattle.teb_names.proofs.Bools.{and_true, and_false}
-use Rattle.teb_history.specs.declared.Event.{Event}
-use Rattle.teb_history.specs.Phases.{txns, begun_count, unfinished, spot_of, begun, began_at}
-use Rattle.teb_history.specs.Accesses.{read_from}
+use Rattle.teb_rules.specs.declared.names.Node.{Node}
+use Rattle.teb_rules.specs.declared.names.Txn.{Txn}
+use Rattle.teb_rules.proofs.lemmas.names.Bools.{and_true, and_false}
+use Rattle.teb_rules.specs.declared.history.Event.{Event}
+use Rattle.teb_rules.specs.history.Phases.{txns, begun_count, unfinished, spot_of, begun, began_at}
+use Rattle.teb_rules.specs.history.Accesses.{read_from}
 use Rattle.teb_rules.specs.Setup.{Setup, among}
 use Rattle.teb_rules.specs.Tree.{meets, on, on_path, path}
 use Rattle.teb_rules.specs.Verdicts.{wait_for, or_else}
 use Rattle.teb_rules.specs.declared.Verdict.{Verdict}
 use Rattle.teb_rules.specs.declared.Verdict.TheVariants.{Go, Wait, Break}
 use Rattle.teb_rules.specs.Serializes.{In}
-use Rattle.teb_laws.specs.TreeFacts.{TreeFacts}
-use Rattle.teb_laws.specs.Lawful.{Lawful}
-use Rattle.teb_laws.proofs.Timeline.{kind-lt}
-use Rattle.teb_laws.proofs.Within.{path-below}
-use Rattle.cc_tree.specs.Grown.{node_numbers}
+use Rattle.teb_rules.specs.laws.TreeFacts.{TreeFacts}
+use Rattle.teb_rules.specs.laws.Lawful.{Lawful}
+use Rattle.teb_rules.proofs.lemmas.laws.Timeline.{kind-lt}
+use Rattle.teb_rules.proofs.lemmas.laws.Within.{path-below}
+use Rattle.store_setup.specs.tree.Grown.{node_numbers}
 use Rattle.phase_api.specs.declared.facts.Facts.{Facts}
 use Rattle.phase_api.specs.Calls.{IsHere}
 use Rattle.phase_api.specs.FactsView.{setup_of, events_of, IsTyped}
@@ -25,7 +25,7 @@ use Rattle.dependency_book.specs.Dependencies.{all_sources}
 use Rattle.dependency_book.specs.Orderly.{Orderly}
 use Rattle.dependency_book.proofs.OrderlyHistories.{unfinished_parts, known}
 use Rattle.dependency_book.proofs.Sources.{has_source, sources_ascend, find_least, find_absent}
-use Rattle.teb_history.proofs.LeastNumbers.{numbers_find, none_below, lesser, find_either}
+use Rattle.teb_rules.proofs.lemmas.history.LeastNumbers.{numbers_find, none_below, lesser, find_either}
 use Rattle.commit_gate.specs.Ways.{IsWay, first_wait}
 
 number : Option Txn → Option ℕ

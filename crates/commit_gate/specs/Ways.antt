@@ -1,6 +1,6 @@
 -- Ways down a tree, and the lesser of two waits.
 use Rattle.std.specs.Prelude.{ℕ, ◌<◌, cond, ltb, List, [], ◌∷◌, length, Option, Some, None}
-use Rattle.teb_names.specs.declared.Txn.{Txn}
+use Rattle.teb_rules.specs.declared.names.Txn.{Txn}
 use Rattle.teb_rules.specs.declared.Verdict.{Verdict}
 use Rattle.teb_rules.specs.declared.Verdict.TheVariants.{Go, Wait, Break}
 use Rattle.phase_api.specs.declared.facts.Facts.{Facts}

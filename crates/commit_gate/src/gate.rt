@@ -1,11 +1,11 @@
 //! The stop of a Commit: validation, the gates, and those that the transaction read from, along its path.
 
 ghost use Rattle.std.specs.Prelude.{◌≡◌, ◌<◌, IsTrue, length};
-ghost use Rattle.teb_history.specs.Phases.{unfinished};
+ghost use Rattle.teb_rules.specs.history.Phases.{unfinished};
 ghost use Rattle.teb_rules.specs.Stops.{on_commit, commit_stop, stop_of};
 ghost use Rattle.teb_rules.specs.Accepted.{IsSound};
-ghost use Rattle.teb_laws.specs.Lawful.{Lawful};
-ghost use Rattle.cc_tree.specs.Grown.{node_numbers};
+ghost use Rattle.teb_rules.specs.laws.Lawful.{Lawful};
+ghost use Rattle.store_setup.specs.tree.Grown.{node_numbers};
 ghost use Rattle.phase_api.specs.Calls.{IsHere};
 ghost use Rattle.phase_api.specs.Standing.{StandAll};
 ghost use Rattle.phase_api.specs.FactsView.{setup_of, events_of};
@@ -16,7 +16,7 @@ ghost use Rattle.commit_gate.specs.Ways.{IsWay, first_wait};
 use crate::sources::unfinished_source;
 use dependency_book::Book;
 use phase_api::{Control, Facts};
-use teb_names::{Node, Txn};
+use teb_rules::names::{Node, Txn};
 use teb_rules::{Stop, Verdict};
 
 /// Returns the stop of a Commit of t: at each node of its path, from the root, validation, and then a wait for the lowest-numbered

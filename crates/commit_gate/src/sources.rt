@@ -1,12 +1,12 @@
 //! The transactions that a Commit waits for among those that its transaction read from.
 
 ghost use Rattle.std.specs.Prelude.{◌≡◌, ◌&&◌, find};
-ghost use Rattle.teb_history.specs.Phases.{unfinished};
+ghost use Rattle.teb_rules.specs.history.Phases.{unfinished};
 ghost use Rattle.teb_rules.specs.Tree.{meets};
 ghost use Rattle.phase_api.specs.FactsView.{setup_of, events_of, IsOrderly, IsTyped};
 
 use phase_api::Facts;
-use teb_names::{Node, Txn};
+use teb_rules::names::{Node, Txn};
 
 /// Returns the first of the sources that is unfinished and meets t at a node.
 pub(crate) fn unfinished_source(sources: &[Txn], facts: &Facts, n: Node, t: Txn) -> Option<Txn>

@@ -1,12 +1,12 @@
 -- What a store keeps across an answer of its engine: X and H are the store and history before the call, Z and L those after it.
 use Rattle.std.proofs.Common.{◌≡◌, ◌+◌, ◌≤◌, ℕ, List, ◌∷◌, ◌++◌, [], length, Some, ap, sym, subst, ◌∙◌, arith}
-use Rattle.teb_names.specs.declared.Session.{Session}
-use Rattle.teb_names.specs.declared.Request.{Request}
-use Rattle.teb_names.specs.declared.Reply.{Reply}
-use Rattle.teb_names.specs.declared.Reply.TheVariants.{Committed}
-use Rattle.teb_names.specs.declared.naming.NameBook.{NameBook}
-use Rattle.teb_history.specs.declared.Event.{Event}
-use Rattle.teb_history.specs.declared.Event.TheVariants.{Done}
+use Rattle.teb_rules.specs.declared.names.Session.{Session}
+use Rattle.teb_rules.specs.declared.names.Request.{Request}
+use Rattle.teb_rules.specs.declared.names.Reply.{Reply}
+use Rattle.teb_rules.specs.declared.names.Reply.TheVariants.{Committed}
+use Rattle.teb_rules.specs.declared.names.naming.NameBook.{NameBook}
+use Rattle.teb_rules.specs.declared.history.Event.{Event}
+use Rattle.teb_rules.specs.declared.history.Event.TheVariants.{Done}
 use Rattle.teb_rules.specs.Setup.{Store}
 use Rattle.teb_rules.specs.Cascade.{txn}
 use Rattle.teb_rules.specs.Answer.{answer}

@@ -1,14 +1,14 @@
 -- The transaction that a request would commit, and what holds after it commits.
 use Rattle.std.proofs.Common.{◌≡◌, ◌<◌, ◌≤◌, ◌+◌, ◌*◌, ℕ, Bool, true, false, cond, List, [], ◌∷◌, ◌++◌, length, Option, Some, None, refl, sym, ap, subst, ◌∙◌, arith, inl, inr, length-append, Result, Ok, Err, ℤ, take}
 use Rattle.std.proofs.lemmas.Bool.{cases_lt}
-use Rattle.teb_names.specs.declared.Txn.{Txn}
-use Rattle.teb_names.specs.declared.Session.{Session}
-use Rattle.teb_names.specs.declared.Request.{Request}
-use Rattle.teb_names.specs.declared.Request.TheVariants.{Begin, Read, Write, Add, Delete, Scan, Prepare, Commit, Abort, End}
-use Rattle.teb_history.specs.declared.Event.{Event}
-use Rattle.teb_history.specs.declared.Event.TheVariants.{Done}
-use Rattle.teb_history.specs.Phases.{held, unfinished}
-use Rattle.teb_history.specs.Written.{txn_of}
+use Rattle.teb_rules.specs.declared.names.Txn.{Txn}
+use Rattle.teb_rules.specs.declared.names.Session.{Session}
+use Rattle.teb_rules.specs.declared.names.Request.{Request}
+use Rattle.teb_rules.specs.declared.names.Request.TheVariants.{Begin, Read, Write, Add, Delete, Scan, Prepare, Commit, Abort, End}
+use Rattle.teb_rules.specs.declared.history.Event.{Event}
+use Rattle.teb_rules.specs.declared.history.Event.TheVariants.{Done}
+use Rattle.teb_rules.specs.history.Phases.{held, unfinished}
+use Rattle.teb_rules.specs.history.Written.{txn_of}
 use Rattle.teb_rules.specs.Setup.{Store}
 use Rattle.teb_rules.specs.Cascade.{txn}
 use Rattle.record_journal.specs.declared.journal.Journal.{Journal}
@@ -21,11 +21,11 @@ use Rattle.commit_laws.specs.Commits.{commit_count}
 use Rattle.commit_laws.specs.Records.{records_of, record_of, puts_of}
 use Rattle.commit_laws.proofs.Prefixes.{length-records}
 use Rattle.std.specs.Prelude.{IfOk}
-use Rattle.teb_names.specs.declared.Cell.{Cell}
-use Rattle.teb_names.specs.Rows.{row_of}
+use Rattle.teb_rules.specs.declared.names.Cell.{Cell}
+use Rattle.teb_rules.specs.names.Rows.{row_of}
 use Rattle.teb_rules.specs.Accepted.{IsSound}
-use Rattle.teb_laws.specs.Lawful.{Lawful, ReadsRows}
-use Rattle.teb_laws.proofs.RowReads.{run_rows}
+use Rattle.teb_rules.specs.laws.Lawful.{Lawful, ReadsRows}
+use Rattle.teb_rules.proofs.lemmas.laws.RowReads.{run_rows}
 use Rattle.engine_core.specs.EngineModel.{IsReached}
 use Rattle.crash_disk.specs.Sizes.{default_capacity}
 use Rattle.record_journal.specs.Journal.{StandsFor, after_records}

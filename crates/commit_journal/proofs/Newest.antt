@@ -1,19 +1,19 @@
 -- Whether a transaction's version follows those of all committed transactions in a chain.
 use Rattle.std.proofs.Common.{◌≡◌, ◌⊎◌, ◌<◌, ℕ, Bool, true, false, not, ◌&&◌, eqb, List, Some, None, refl, sym, ap, subst, ◌∙◌, arith, inl, inr, length, get_or, eqb-true, le-ltb}
 use Rattle.std.proofs.lemmas.Bool.{eq-eqb, both_ways, cases_order, cases_Bool, and_from, and_parts, or_cases, or_left, or_right, not-true, not_from_false, false_from_ne_true, eqb-false}
-use Rattle.teb_names.specs.declared.Cell.{Cell}
-use Rattle.teb_history.specs.declared.Event.{Event}
-use Rattle.teb_history.specs.Phases.{txns, committed, aborted}
-use Rattle.teb_history.specs.Accesses.{wrote}
+use Rattle.teb_rules.specs.declared.names.Cell.{Cell}
+use Rattle.teb_rules.specs.declared.history.Event.{Event}
+use Rattle.teb_rules.specs.history.Phases.{txns, committed, aborted}
+use Rattle.teb_rules.specs.history.Accesses.{wrote}
 use Rattle.teb_rules.specs.Setup.{Setup}
 use Rattle.teb_rules.specs.Serializes.{In}
 use Rattle.teb_rules.specs.Versions.{precedes}
-use Rattle.teb_laws.specs.Lawful.{Lawful}
-use Rattle.teb_laws.proofs.Locks.{In-txns}
-use Rattle.teb_laws.proofs.Ranks.{commits}
-use Rattle.teb_laws.proofs.ReadRule.{list_all_at, list_all_from}
-use Rattle.teb_laws.proofs.Serial.{commits_from}
-use Rattle.teb_laws.proofs.VersionOrder.{precedes_irreflexive}
+use Rattle.teb_rules.specs.laws.Lawful.{Lawful}
+use Rattle.teb_rules.proofs.lemmas.laws.Locks.{In-txns}
+use Rattle.teb_rules.proofs.lemmas.laws.Ranks.{commits}
+use Rattle.teb_rules.proofs.lemmas.laws.ReadRule.{list_all_at, list_all_from}
+use Rattle.teb_rules.proofs.lemmas.laws.Serial.{commits_from}
+use Rattle.teb_rules.proofs.lemmas.laws.VersionOrder.{precedes_irreflexive}
 use Rattle.version_chain.specs.Lists.{Version, writers_of}
 use Rattle.version_chain.proofs.Places.{IsLast}
 use Rattle.phase_api.specs.Versions.{HoldsVersions}

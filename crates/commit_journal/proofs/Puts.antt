@@ -7,23 +7,23 @@ use Rattle.std.specs.Option.{option_or}
 use Rattle.std.proofs.lemmas.Bool.{cases_lt}
 use Rattle.std.proofs.lemmas.List.Elements.{filter-append}
 use Rattle.std.proofs.lemmas.List.{append-nil, take_more}
-use Rattle.teb_names.specs.declared.Cell.{Cell}
-use Rattle.teb_names.specs.declared.Txn.{Txn}
-use Rattle.teb_names.specs.Cells.{same_cell, cell_cmp}
-use Rattle.teb_names.proofs.Bools.{or_false}
-use Rattle.teb_names.proofs.CellOrder.{same_cell-cell_cmp}
-use Rattle.teb_history.specs.declared.Event.{Event}
-use Rattle.teb_history.specs.declared.Event.TheVariants.{Began, Got, Put, Ready, Done, Gone, Told}
-use Rattle.teb_names.proofs.SameCells.{same_cell-true, same_itself, same_laws}
+use Rattle.teb_rules.specs.declared.names.Cell.{Cell}
+use Rattle.teb_rules.specs.declared.names.Txn.{Txn}
+use Rattle.teb_rules.specs.names.Cells.{same_cell, cell_cmp}
+use Rattle.teb_rules.proofs.lemmas.names.Bools.{or_false}
+use Rattle.teb_rules.proofs.lemmas.names.CellOrder.{same_cell-cell_cmp}
+use Rattle.teb_rules.specs.declared.history.Event.{Event}
+use Rattle.teb_rules.specs.declared.history.Event.TheVariants.{Began, Got, Put, Ready, Done, Gone, Told}
+use Rattle.teb_rules.proofs.lemmas.names.SameCells.{same_cell-true, same_itself, same_laws}
 use Rattle.record_journal.specs.declared.change.Change.{Change}
 use Rattle.record_journal.specs.Format.{Record}
 use Rattle.commit_laws.specs.Records.{last_puts, has, puts_of}
 use Rattle.commit_journal.specs.Kept.{with_event, AreCells}
 use Rattle.commit_laws.proofs.Lookup.{lookup, lookup_puts}
-use Rattle.teb_history.specs.Accesses.{wrote, put_at, last_put}
-use Rattle.teb_history.specs.OwnEvents.{own_events}
-use Rattle.teb_history.proofs.OwnWalks.{last_put_own}
-use Rattle.teb_laws.proofs.ReadRule.{last_put-none}
+use Rattle.teb_rules.specs.history.Accesses.{wrote, put_at, last_put}
+use Rattle.teb_rules.specs.history.OwnEvents.{own_events}
+use Rattle.teb_rules.proofs.lemmas.history.OwnWalks.{last_put_own}
+use Rattle.teb_rules.proofs.lemmas.laws.ReadRule.{last_put-none}
 
 -- the changes of cells that `seen` does not have
 abbrev pub fresh : Record → Record → Record

@@ -1,22 +1,22 @@
 -- What a reply says about commits.
 use Rattle.std.proofs.Common.{inl, inr, ◌≡◌, ℕ, Bool, true, false, cond, not, ◌&&◌, leb, ltb, is_none, List, [], ◌∷◌, Option, Some, None, refl, ◌∙◌, ap, unwrap_or, ℤ, ◌+ℤ◌}
 use Rattle.std.proofs.lemmas.Bool.{both_ways}
-use Rattle.teb_names.specs.declared.TheConstants.{MOST_TXNS, SESSIONS}
-use Rattle.teb_names.specs.declared.Session.{Session}
-use Rattle.teb_names.specs.declared.Spot.{Spot}
-use Rattle.teb_names.specs.declared.Cell.{Cell}
-use Rattle.teb_names.specs.declared.Cause.{Cause}
-use Rattle.teb_names.specs.declared.Cause.TheVariants.{After, Asked, Ended, Newer}
-use Rattle.teb_names.specs.declared.Request.{Request}
-use Rattle.teb_names.specs.declared.Request.TheVariants.{Begin, Read, Write, Add, Delete, Scan, Prepare, Commit, Abort, End}
-use Rattle.teb_names.specs.declared.Reply.TheVariants.{Committed, Aborted, Prepared, Again}
-use Rattle.teb_names.specs.declared.Refusal.{Refusal}
-use Rattle.teb_names.specs.declared.Refusal.TheVariants.{BadSession, InTxn, UnknownType, Full, UnknownTable, NotInProfile, Range, NotRead, Overflow}
-use Rattle.teb_names.specs.declared.Refusal.TheVariants.{Prepared as IsPrepared}
-use Rattle.teb_history.specs.declared.Event.{Event}
-use Rattle.teb_history.specs.declared.Event.TheVariants.{Got, Ready, Done, Gone, Told}
-use Rattle.teb_history.specs.Phases.{held, unfinished, aborted, prepared, begun_count, kind_of, cause_of}
-use Rattle.teb_history.specs.Accesses.{last_put, last_got}
+use Rattle.teb_rules.specs.declared.names.TheConstants.{MOST_TXNS, SESSIONS}
+use Rattle.teb_rules.specs.declared.names.Session.{Session}
+use Rattle.teb_rules.specs.declared.names.Spot.{Spot}
+use Rattle.teb_rules.specs.declared.names.Cell.{Cell}
+use Rattle.teb_rules.specs.declared.names.Cause.{Cause}
+use Rattle.teb_rules.specs.declared.names.Cause.TheVariants.{After, Asked, Ended, Newer}
+use Rattle.teb_rules.specs.declared.names.Request.{Request}
+use Rattle.teb_rules.specs.declared.names.Request.TheVariants.{Begin, Read, Write, Add, Delete, Scan, Prepare, Commit, Abort, End}
+use Rattle.teb_rules.specs.declared.names.Reply.TheVariants.{Committed, Aborted, Prepared, Again}
+use Rattle.teb_rules.specs.declared.names.Refusal.{Refusal}
+use Rattle.teb_rules.specs.declared.names.Refusal.TheVariants.{BadSession, InTxn, UnknownType, Full, UnknownTable, NotInProfile, Range, NotRead, Overflow}
+use Rattle.teb_rules.specs.declared.names.Refusal.TheVariants.{Prepared as IsPrepared}
+use Rattle.teb_rules.specs.declared.history.Event.{Event}
+use Rattle.teb_rules.specs.declared.history.Event.TheVariants.{Got, Ready, Done, Gone, Told}
+use Rattle.teb_rules.specs.history.Phases.{held, unfinished, aborted, prepared, begun_count, kind_of, cause_of}
+use Rattle.teb_rules.specs.history.Accesses.{last_put, last_got}
 use Rattle.teb_rules.specs.Setup.{Setup, Store, profile}
 use Rattle.teb_rules.specs.Steps.{least_step, cursor}
 use Rattle.teb_rules.specs.Cascade.{txn, abort, fall_in_turn, cascade, blamed}
@@ -26,8 +26,8 @@ use Rattle.teb_rules.specs.Verdicts.{cause_at}
 use Rattle.teb_rules.specs.Versions.{read}
 use Rattle.teb_rules.specs.declared.Stop.{Stop}
 use Rattle.teb_rules.specs.declared.Stop.TheVariants as stop
-use Rattle.teb_laws.proofs.Holding.{held_holds, holds_cases}
-use Rattle.teb_laws.proofs.Reachable.{untold_gone}
+use Rattle.teb_rules.proofs.lemmas.laws.Holding.{held_holds, holds_cases}
+use Rattle.teb_rules.proofs.lemmas.laws.Reachable.{untold_gone}
 use Rattle.commit_laws.specs.Records.{records_of}
 use Rattle.commit_journal.specs.Kept.{committing, if_unfinished}
 

@@ -1,10 +1,10 @@
 -- What a request to a store on a disk comes to.
 use Rattle.std.specs.Prelude.{◌≡◌, ◌+◌, ◌*◌, ◌-◌, ◌^◌, ◌<◌, ◌≤◌, ℕ, true, false, List, length, Some, Result, IfOk, OnOk, IsErrOf}
 use Rattle.teb_io.specs.Faults.{Rose}
-use Rattle.teb_names.specs.declared.Session.{Session}
-use Rattle.teb_names.specs.declared.Request.{Request}
-use Rattle.teb_names.specs.declared.Reply.{Reply}
-use Rattle.teb_names.specs.declared.Reply.TheVariants.{Committed}
+use Rattle.teb_rules.specs.declared.names.Session.{Session}
+use Rattle.teb_rules.specs.declared.names.Request.{Request}
+use Rattle.teb_rules.specs.declared.names.Reply.{Reply}
+use Rattle.teb_rules.specs.declared.names.Reply.TheVariants.{Committed}
 use Rattle.teb_rules.specs.Answer.{answer}
 use Rattle.crash_disk.specs.Calls.{Tally, AreSure, Fails, IsUpTo}
 use Rattle.crash_disk.specs.Sizes.{default_capacity}

@@ -1,20 +1,20 @@
 -- What contracts see of a store on a disk, and which requests commit.
 use Rattle.std.specs.Prelude.{◌≡◌, ◌+◌, ◌*◌, ◌<◌, ℕ, Bool, cond, eqb, ◌||◌, if◌then◌else◌, ◌++◌, ◌∷◌, [], List, length, Option, Some, None}
 use Rattle.std.specs.BTreeSet.{BTreeSet, contains}
-use Rattle.teb_names.specs.declared.Cell.{Cell}
-use Rattle.teb_names.specs.Cells.{cell_cmp}
-use Rattle.teb_names.specs.declared.Session.{Session}
-use Rattle.teb_names.specs.declared.Request.{Request}
-use Rattle.teb_names.specs.declared.Request.TheVariants.{Commit}
-use Rattle.teb_names.specs.declared.naming.NameBook.{NameBook}
-use Rattle.teb_history.specs.declared.Event.{Event}
-use Rattle.teb_history.specs.Phases.{held, unfinished, committed}
+use Rattle.teb_rules.specs.declared.names.Cell.{Cell}
+use Rattle.teb_rules.specs.names.Cells.{cell_cmp}
+use Rattle.teb_rules.specs.declared.names.Session.{Session}
+use Rattle.teb_rules.specs.declared.names.Request.{Request}
+use Rattle.teb_rules.specs.declared.names.Request.TheVariants.{Commit}
+use Rattle.teb_rules.specs.declared.names.naming.NameBook.{NameBook}
+use Rattle.teb_rules.specs.declared.history.Event.{Event}
+use Rattle.teb_rules.specs.history.Phases.{held, unfinished, committed}
 use Rattle.teb_rules.specs.Setup.{Store}
 use Rattle.engine_core.specs.EngineModel.{EngineModel}
 use Rattle.record_journal.specs.declared.journal.Journal.{Journal}
 use Rattle.commit_laws.specs.Records.{puts_of, has}
 use Rattle.record_journal.specs.Format.{Record}
-use Rattle.teb_history.specs.declared.Event.TheVariants.{Put}
+use Rattle.teb_rules.specs.declared.history.Event.TheVariants.{Put}
 
 -- the store, its names, its events, the newest first; the disk, where the journal on it ends, how many commits were acknowledged, and
 -- whether the disk has failed

@@ -1,6 +1,6 @@
 -- What holds of every store on a disk, and what a crash leaves of it.
 use Rattle.std.specs.Prelude.{ℕ, List}
-use Rattle.teb_history.specs.declared.Event.{Event}
+use Rattle.teb_rules.specs.declared.history.Event.{Event}
 use Rattle.teb_rules.specs.Setup.{Store}
 use Rattle.crash_disk.specs.Sizes.{default_capacity}
 use Rattle.record_journal.specs.declared.journal.Journal.{Journal}

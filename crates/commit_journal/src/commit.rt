@@ -1,9 +1,9 @@
 //! The record of a commit: its changes to the cells that it has put.
 
 ghost use Rattle.std.specs.Prelude.{◌≡◌, ◌≤◌, ◌^◌, length, None, IsTrue, IfOk, OnOk, IsErrOf, if◌then◌else◌, ◌++◌, ◌∷◌, []};
-ghost use Rattle.teb_history.specs.Accesses.{wrote};
-ghost use Rattle.teb_history.specs.Phases.{unfinished};
-ghost use Rattle.teb_history.specs.Written.{txn_of};
+ghost use Rattle.teb_rules.specs.history.Accesses.{wrote};
+ghost use Rattle.teb_rules.specs.history.Phases.{unfinished};
+ghost use Rattle.teb_rules.specs.history.Written.{txn_of};
 ghost use Rattle.commit_laws.specs.Records.{puts_of as all_puts, is_newest as newest, record_of as changes_of, has};
 ghost use Rattle.commit_journal.specs.Answered.{IsBodyFor};
 ghost use Rattle.commit_journal.specs.Kept.{committing as committed_by, counts, with_event, AreCells, IsFull};
@@ -15,8 +15,8 @@ use engine_core::Engine;
 use record_journal::{Change, encode};
 use std::alloc::{AllocError, Global};
 use std::collections::BTreeSet;
-use teb_history::{Event, History};
-use teb_names::{Cell, Request, Session, Txn};
+use teb_rules::history::{Event, History};
+use teb_rules::names::{Cell, Request, Session, Txn};
 use version_chain::Chains;
 
 /// Returns the body of the record that a request would commit; no bytes if it would commit nothing. `left` is the number of bytes

@@ -22,7 +22,7 @@ use record_journal::Journal;
 use std::alloc::Global;
 use std::marker::Model;
 use teb_io::Failed;
-use teb_names::{Reply, Request, Session};
+use teb_rules::names::{Reply, Request, Session};
 use version_chain::Chains;
 
 /// A store whose commits are kept on a disk. Contracts see the store, its names and events, the newest first; the disk, the end

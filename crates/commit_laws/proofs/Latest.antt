@@ -1,24 +1,24 @@
 -- The latest writer of a cell, now and at an earlier position.
 use Rattle.std.proofs.Common.{◌≡◌, ◌≢◌, ◌⊎◌, ◌<◌, ◌≤◌, ℕ, Bool, true, false, ◌&&◌, List, Option, Some, None, ℤ, refl, sym, ap, subst, ◌∙◌, arith, inl, inr, length, filter, unwrap_or, lt-ltb, ltb-true}
 use Rattle.std.proofs.lemmas.Bool.{both_ways, cases_eq, and_from, and_parts, not-true, not_from_false}
-use Rattle.teb_names.specs.declared.Cell.{Cell}
-use Rattle.teb_history.specs.declared.Event.{Event}
-use Rattle.teb_history.specs.Accesses.{wrote, put_at}
-use Rattle.teb_history.specs.Phases.{txns, committed, began_at, done_at}
-use Rattle.teb_history.specs.Positions.{upto}
+use Rattle.teb_rules.specs.declared.names.Cell.{Cell}
+use Rattle.teb_rules.specs.declared.history.Event.{Event}
+use Rattle.teb_rules.specs.history.Accesses.{wrote, put_at}
+use Rattle.teb_rules.specs.history.Phases.{txns, committed, began_at, done_at}
+use Rattle.teb_rules.specs.history.Positions.{upto}
 use Rattle.teb_rules.specs.Setup.{Setup, Store}
 use Rattle.teb_rules.specs.Serializes.{In, value_of}
 use Rattle.teb_rules.specs.Versions.{precedes, latest, value_left}
-use Rattle.teb_laws.specs.Lawful.{Lawful}
-use Rattle.teb_laws.specs.TreeFacts.{TreeFacts}
-use Rattle.teb_laws.proofs.Locks.{In-txns}
-use Rattle.teb_laws.proofs.NodeFacts.{precedes-upto, last_put-stable}
-use Rattle.teb_laws.proofs.Ranks.{commits}
-use Rattle.teb_laws.proofs.ReadRule.{list_all_at, list_all_from, latest-some, latest-none}
-use Rattle.teb_laws.proofs.Serial.{In-filter, filter-In, commits_from}
-use Rattle.teb_laws.proofs.Timeline.{Lawful-upto, granted_at, put_may, unfinished-upto, committed-upto, wrote-upto, put_order}
-use Rattle.teb_laws.proofs.Transitive.{writers_ordered}
-use Rattle.teb_laws.proofs.VersionOrder.{Writes, writer_of, precedes_total, precedes_irreflexive}
+use Rattle.teb_rules.specs.laws.Lawful.{Lawful}
+use Rattle.teb_rules.specs.laws.TreeFacts.{TreeFacts}
+use Rattle.teb_rules.proofs.lemmas.laws.Locks.{In-txns}
+use Rattle.teb_rules.proofs.lemmas.laws.NodeFacts.{precedes-upto, last_put-stable}
+use Rattle.teb_rules.proofs.lemmas.laws.Ranks.{commits}
+use Rattle.teb_rules.proofs.lemmas.laws.ReadRule.{list_all_at, list_all_from, latest-some, latest-none}
+use Rattle.teb_rules.proofs.lemmas.laws.Serial.{In-filter, filter-In, commits_from}
+use Rattle.teb_rules.proofs.lemmas.laws.Timeline.{Lawful-upto, granted_at, put_may, unfinished-upto, committed-upto, wrote-upto, put_order}
+use Rattle.teb_rules.proofs.lemmas.laws.Transitive.{writers_ordered}
+use Rattle.teb_rules.proofs.lemmas.laws.VersionOrder.{Writes, writer_of, precedes_total, precedes_irreflexive}
 use Rattle.candidate_reads.proofs.InOrder.{find_only, find_nothing}
 
 -- any two different writers in the list are ordered

@@ -1,20 +1,20 @@
 -- The laws of a history's first k commits.
 use Rattle.std.proofs.Common.{◌≡◌, ◌≤◌, ℕ, Bool, false, List, [], ◌∷◌, length, refl, sym, ap, subst, ◌∙◌, arith, le_refl, le-ltb, lt-ltb}
-use Rattle.teb_names.specs.declared.Cell.{Cell}
-use Rattle.teb_names.specs.Rows.{row_of}
-use Rattle.teb_history.specs.declared.Event.{Event}
-use Rattle.teb_history.specs.declared.Event.TheVariants.{Began, Got, Put, Ready, Done, Gone, Told}
-use Rattle.teb_history.specs.Phases.{committed, done_at, is_done, txns, numbers, begun_count}
-use Rattle.teb_history.specs.Positions.{first_event, newest}
+use Rattle.teb_rules.specs.declared.names.Cell.{Cell}
+use Rattle.teb_rules.specs.names.Rows.{row_of}
+use Rattle.teb_rules.specs.declared.history.Event.{Event}
+use Rattle.teb_rules.specs.declared.history.Event.TheVariants.{Began, Got, Put, Ready, Done, Gone, Told}
+use Rattle.teb_rules.specs.history.Phases.{committed, done_at, is_done, txns, numbers, begun_count}
+use Rattle.teb_rules.specs.history.Positions.{first_event, newest}
 use Rattle.teb_rules.specs.Setup.{Setup, Store}
 use Rattle.teb_rules.specs.Serializes.{final_table, value_of}
 use Rattle.teb_rules.specs.Versions.{latest}
-use Rattle.teb_laws.specs.Lawful.{Lawful}
-use Rattle.teb_laws.specs.TreeFacts.{TreeFacts}
-use Rattle.teb_laws.proofs.Positions.{upto_all, upto_cons, first_cases, before, now, later}
-use Rattle.teb_laws.proofs.Sound.{tree_facts}
-use Rattle.teb_laws.proofs.Theorem.{lawful_serializes}
-use Rattle.teb_laws.proofs.Timeline.{Lawful-upto}
+use Rattle.teb_rules.specs.laws.Lawful.{Lawful}
+use Rattle.teb_rules.specs.laws.TreeFacts.{TreeFacts}
+use Rattle.teb_rules.proofs.lemmas.laws.Positions.{upto_all, upto_cons, first_cases, before, now, later}
+use Rattle.teb_rules.proofs.lemmas.laws.Sound.{tree_facts}
+use Rattle.teb_rules.proofs.lemmas.laws.Theorem.{lawful_serializes}
+use Rattle.teb_rules.proofs.lemmas.laws.Timeline.{Lawful-upto}
 use Rattle.std.proofs.lemmas.Bool.{both_ways}
 use Rattle.record_journal.specs.Format.{Record}
 use Rattle.record_journal.specs.Journal.{after_records}

@@ -1,16 +1,16 @@
 -- The value that a record leaves in a cell.
 use Rattle.std.proofs.Common.{◌≡◌, ℕ, Bool, true, false, cond, not, List, [], ◌∷◌, ◌++◌, Option, Some, None, ℤ, refl, sym, ap, ◌∙◌, unwrap_or, filter}
 use Rattle.std.specs.Option.{option_or}
-use Rattle.teb_names.specs.declared.Cell.{Cell}
-use Rattle.teb_names.specs.Cells.{same_cell}
-use Rattle.teb_history.specs.declared.Event.{Event}
-use Rattle.teb_history.specs.declared.Event.TheVariants.{Began, Got, Put, Ready, Done, Gone, Told}
-use Rattle.teb_history.specs.Accesses.{last_put}
-use Rattle.teb_history.specs.OwnEvents.{own_events, put_in as puts}
-use Rattle.teb_history.proofs.OwnWalks.{newest_in, last_put_own}
+use Rattle.teb_rules.specs.declared.names.Cell.{Cell}
+use Rattle.teb_rules.specs.names.Cells.{same_cell}
+use Rattle.teb_rules.specs.declared.history.Event.{Event}
+use Rattle.teb_rules.specs.declared.history.Event.TheVariants.{Began, Got, Put, Ready, Done, Gone, Told}
+use Rattle.teb_rules.specs.history.Accesses.{last_put}
+use Rattle.teb_rules.specs.history.OwnEvents.{own_events, put_in as puts}
+use Rattle.teb_rules.proofs.lemmas.history.OwnWalks.{newest_in, last_put_own}
 use Rattle.teb_rules.specs.Replay.{Values, put_in}
 use Rattle.teb_rules.specs.Setup.{Setup}
-use Rattle.teb_names.proofs.SameCells.{same_cell-true, same_laws}
+use Rattle.teb_rules.proofs.lemmas.names.SameCells.{same_cell-true, same_laws}
 use Rattle.record_journal.specs.Format.{Record}
 use Rattle.record_journal.specs.Journal.{after_changes, after_records}
 use Rattle.commit_laws.specs.Records.{last_puts, is_newest, record_of}

@@ -2,25 +2,25 @@
 use Rattle.std.proofs.Common.{◌≡◌, ◌≢◌, ◌⊎◌, ◌<◌, ◌≤◌, ℕ, suc, Bool, true, false, cond, not, ◌&&◌, List, [], ◌∷◌, Option, Some, None, ℤ, refl, sym, ap, subst, ◌∙◌, arith, inl, inr, length, unwrap_or, lt-ltb, le-ltb, ltb-true, ltb-false, eqb-true, le_refl}
 use Rattle.std.specs.List.{list_all}
 use Rattle.std.proofs.lemmas.Bool.{eq-eqb, both_ways, cases_eq, cases_lt, and_from, and_parts, not-true, not-false, false_from_ne_true}
-use Rattle.teb_names.specs.declared.Txn.{Txn}
-use Rattle.teb_names.specs.declared.Cell.{Cell}
-use Rattle.teb_history.specs.declared.Event.{Event}
-use Rattle.teb_history.specs.declared.Event.TheVariants.{Done}
-use Rattle.teb_history.specs.Accesses.{wrote, put_at, last_put}
-use Rattle.teb_history.specs.Phases.{txns, committed, began_at, done_at, is_done}
-use Rattle.teb_history.specs.Positions.{upto, first, first_event, newest}
+use Rattle.teb_rules.specs.declared.names.Txn.{Txn}
+use Rattle.teb_rules.specs.declared.names.Cell.{Cell}
+use Rattle.teb_rules.specs.declared.history.Event.{Event}
+use Rattle.teb_rules.specs.declared.history.Event.TheVariants.{Done}
+use Rattle.teb_rules.specs.history.Accesses.{wrote, put_at, last_put}
+use Rattle.teb_rules.specs.history.Phases.{txns, committed, began_at, done_at, is_done}
+use Rattle.teb_rules.specs.history.Positions.{upto, first, first_event, newest}
 use Rattle.teb_rules.specs.Setup.{Setup, Store}
 use Rattle.teb_rules.specs.Serializes.{In, value_of, final_table}
 use Rattle.teb_rules.specs.Versions.{precedes, latest}
-use Rattle.teb_laws.specs.Lawful.{Lawful}
-use Rattle.teb_laws.specs.TreeFacts.{TreeFacts}
-use Rattle.teb_laws.proofs.Cascades.{unfinished_times}
-use Rattle.teb_laws.proofs.Positions.{upto_all, upto_cons, first_cases, before, now, later}
-use Rattle.teb_laws.proofs.Ranks.{commits}
-use Rattle.teb_laws.proofs.ReadRule.{list_all_at, latest-some, last_put-none, last_put-some}
-use Rattle.teb_laws.proofs.Serial.{In-filter, filter-In, commits_from, committed_from}
-use Rattle.teb_laws.proofs.Timeline.{committed-upto, wrote-upto, put_order}
-use Rattle.teb_laws.proofs.VersionOrder.{precedes_irreflexive}
+use Rattle.teb_rules.specs.laws.Lawful.{Lawful}
+use Rattle.teb_rules.specs.laws.TreeFacts.{TreeFacts}
+use Rattle.teb_rules.proofs.lemmas.laws.Cascades.{unfinished_times}
+use Rattle.teb_rules.proofs.lemmas.laws.Positions.{upto_all, upto_cons, first_cases, before, now, later}
+use Rattle.teb_rules.proofs.lemmas.laws.Ranks.{commits}
+use Rattle.teb_rules.proofs.lemmas.laws.ReadRule.{list_all_at, latest-some, last_put-none, last_put-some}
+use Rattle.teb_rules.proofs.lemmas.laws.Serial.{In-filter, filter-In, commits_from, committed_from}
+use Rattle.teb_rules.proofs.lemmas.laws.Timeline.{committed-upto, wrote-upto, put_order}
+use Rattle.teb_rules.proofs.lemmas.laws.VersionOrder.{precedes_irreflexive}
 use Rattle.commit_laws.specs.Records.{is_newest}
 use Rattle.commit_laws.proofs.Latest.{counted, Wrote, latest_is, latest_nobody, writers_ordered_by, transitive, in_counted, counted_in, was_done, then_wrote, now_wrote, same_order, then_counted, still_latest, nobody_then, value_then}
 

@@ -1,14 +1,14 @@
 -- The length of the journal of a history.
 use Rattle.std.proofs.Common.{◌≡◌, ◌≤◌, ◌+◌, ◌*◌, ℕ, zero, suc, Bool, true, false, cond, not, eqb, ◌&&◌, ◌||◌, List, [], ◌∷◌, ◌++◌, length, filter, refl, sym, ap, subst, ◌∙◌, arith}
 use Rattle.std.proofs.lemmas.Bool.{both_ways, eq-eqb, eqb-true}
-use Rattle.teb_names.specs.Cells.{same_cell}
-use Rattle.teb_history.specs.declared.Event.{Event}
-use Rattle.teb_history.specs.declared.Event.TheVariants.{Began, Got, Put, Ready, Done, Gone, Told}
-use Rattle.teb_history.specs.Phases.{begun, committed, aborted, unfinished, is_done}
-use Rattle.teb_history.specs.OwnEvents.{own_events, is_of}
-use Rattle.teb_history.proofs.Newest.{committed-cons}
+use Rattle.teb_rules.specs.names.Cells.{same_cell}
+use Rattle.teb_rules.specs.declared.history.Event.{Event}
+use Rattle.teb_rules.specs.declared.history.Event.TheVariants.{Began, Got, Put, Ready, Done, Gone, Told}
+use Rattle.teb_rules.specs.history.Phases.{begun, committed, aborted, unfinished, is_done}
+use Rattle.teb_rules.specs.history.OwnEvents.{own_events, is_of}
+use Rattle.teb_rules.proofs.lemmas.history.Newest.{committed-cons}
 use Rattle.teb_rules.specs.Setup.{Setup}
-use Rattle.teb_laws.specs.Lawful.{Lawful}
+use Rattle.teb_rules.specs.laws.Lawful.{Lawful}
 use Rattle.record_journal.specs.Format.{records}
 use Rattle.record_journal.proofs.Spelled.{length-records-push}
 use Rattle.commit_laws.specs.Commits.{commit_count, put_count}

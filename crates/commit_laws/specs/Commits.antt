@@ -1,9 +1,9 @@
 -- The first commits of a history, and the table that they leave.
 use Rattle.std.specs.Prelude.{ℕ, zero, suc, cond, leb, ◌&&◌, List, [], ◌∷◌, filter}
-use Rattle.teb_history.specs.declared.Event.{Event}
-use Rattle.teb_history.specs.declared.Event.TheVariants.{Put, Done}
-use Rattle.teb_history.specs.Phases.{txns, committed}
-use Rattle.teb_history.specs.Accesses.{wrote}
+use Rattle.teb_rules.specs.declared.history.Event.{Event}
+use Rattle.teb_rules.specs.declared.history.Event.TheVariants.{Put, Done}
+use Rattle.teb_rules.specs.history.Phases.{txns, committed}
+use Rattle.teb_rules.specs.history.Accesses.{wrote}
 use Rattle.teb_rules.specs.Setup.{Store}
 use Rattle.teb_rules.specs.Versions.{latest}
 use Rattle.teb_rules.specs.Replay.{Values}

@@ -1,13 +1,13 @@
 -- The laws of the first commits of a history: X is the store, and H any lawful history of it.
 use Rattle.std.specs.Prelude.{◌≡◌, ◌≤◌, ℕ, List, take}
-use Rattle.teb_names.specs.declared.Cell.{Cell}
-use Rattle.teb_names.specs.Rows.{row_of}
-use Rattle.teb_history.specs.declared.Event.{Event}
+use Rattle.teb_rules.specs.declared.names.Cell.{Cell}
+use Rattle.teb_rules.specs.names.Rows.{row_of}
+use Rattle.teb_rules.specs.declared.history.Event.{Event}
 use Rattle.teb_rules.specs.Setup.{Store}
 use Rattle.teb_rules.specs.Accepted.{IsSound}
 use Rattle.teb_rules.specs.Ranks.{serial_order}
 use Rattle.teb_rules.specs.Serializes.{Serializes, final_table}
-use Rattle.teb_laws.specs.Lawful.{Lawful, ReadsRows}
+use Rattle.teb_rules.specs.laws.Lawful.{Lawful, ReadsRows}
 use Rattle.record_journal.specs.Journal.{after_records}
 use Rattle.commit_laws.specs.Commits.{commit_count, up_to_commit, rows_after}
 use Rattle.commit_laws.specs.Records.{records_of}

@@ -1,13 +1,13 @@
 -- The record of each commit of a history.
 use Rattle.std.specs.Prelude.{ℕ, Bool, not, ◌&&◌, List, [], ◌∷◌, ◌++◌, filter}
 use Rattle.std.specs.List.{list_all, list_any}
-use Rattle.teb_names.specs.declared.Cell.{Cell}
-use Rattle.teb_names.specs.Cells.{same_cell}
-use Rattle.teb_history.specs.declared.Event.{Event}
-use Rattle.teb_history.specs.declared.Event.TheVariants.{Put, Done}
-use Rattle.teb_history.specs.Phases.{txns, committed}
-use Rattle.teb_history.specs.Accesses.{wrote}
-use Rattle.teb_history.specs.OwnEvents.{own_events}
+use Rattle.teb_rules.specs.declared.names.Cell.{Cell}
+use Rattle.teb_rules.specs.names.Cells.{same_cell}
+use Rattle.teb_rules.specs.declared.history.Event.{Event}
+use Rattle.teb_rules.specs.declared.history.Event.TheVariants.{Put, Done}
+use Rattle.teb_rules.specs.history.Phases.{txns, committed}
+use Rattle.teb_rules.specs.history.Accesses.{wrote}
+use Rattle.teb_rules.specs.history.OwnEvents.{own_events}
 use Rattle.teb_rules.specs.Setup.{Setup}
 use Rattle.teb_rules.specs.Versions.{precedes}
 use Rattle.record_journal.specs.Format.{Record}

@@ -1,18 +1,18 @@
 -- Runs on a disk along a list of requests.
 use Rattle.std.proofs.Common.{◌≡◌, ◌<◌, ◌≤◌, ◌+◌, ℕ, zero, suc, List, [], ◌∷◌, ◌++◌, length, map, take, drop, get_or, refl, sym, ◌∙◌, ap, ap₂, subst, append_assoc, arith}
 use Rattle.std.proofs.lemmas.List.{append-nil, take_more, map_push}
-use Rattle.teb_names.specs.declared.Session.{Session}
-use Rattle.teb_names.specs.declared.Request.{Request}
-use Rattle.teb_names.specs.declared.Request.TheVariants.{Begin, Read, Write, Add, Delete, Scan, Prepare, Commit, Abort, End}
-use Rattle.teb_history.specs.declared.Event.{Event}
+use Rattle.teb_rules.specs.declared.names.Session.{Session}
+use Rattle.teb_rules.specs.declared.names.Request.{Request}
+use Rattle.teb_rules.specs.declared.names.Request.TheVariants.{Begin, Read, Write, Add, Delete, Scan, Prepare, Commit, Abort, End}
+use Rattle.teb_rules.specs.declared.history.Event.{Event}
 use Rattle.teb_rules.specs.Setup.{Store}
 use Rattle.teb_rules.specs.Answer.{answer}
 use Rattle.teb_rules.specs.Run.{history_after, ends_of}
 use Rattle.crash_disk.specs.Calls.{Promise, Tally}
 use Rattle.script_text.specs.declared.Line.{Line}
 use Rattle.script_text.specs.declared.Answered.{Answered}
-use Rattle.replay_runner.specs.Logs.{Requests, log_of, requests_of, replayed}
-use Rattle.replay_runner.proofs.Logged.{log_append, history_append, history_none, history_step}
+use Rattle.script_runner.specs.replay.Logs.{Requests, log_of, requests_of, replayed}
+use Rattle.script_runner.proofs.lemmas.replay.Logged.{log_append, history_append, history_none, history_step}
 use Rattle.crash_runner.specs.Underway.{HasAsked, StopsAt, weight}
 
 pub asked_none : (X : Store) (log : List Answered) (H : List Event) → HasAsked X [] log H log H

@@ -5,7 +5,7 @@ use Rattle.std.specs.Str.{bytes_eq}
 use Rattle.std.proofs.lemmas.List.{take_more}
 use Rattle.std.proofs.lemmas.List.Quantifiers.{position-Some}
 use Rattle.std.proofs.lemmas.Option.{get_or_from_slice_get}
-use Rattle.teb_names.specs.Names.{has, number_of}
+use Rattle.teb_rules.specs.names.Names.{has, number_of}
 
 none_before : (p : List ℕ → Bool) (xs : List (List ℕ)) (i : ℕ) (d : List ℕ) → ((k : ℕ) → k < i → p (get_or xs k d) ≡ false) → i < suc (length xs) → list_any p (take i xs) ≡ false
 none_before p xs zero d h lt = refl

@@ -1,18 +1,18 @@
 -- The result of a run on a disk.
 use Rattle.std.proofs.Common.{◌≡◌, ◌≤◌, ◌<◌, ◌+◌, ◌-◌, ◌/◌, ℕ, suc, Bool, true, false, List, [], ◌∷◌, ◌++◌, length, take, refl, sym, ◌∙◌, ap, subst, arith, append_assoc, length-append, ℤ}
 use Rattle.std.proofs.lemmas.List.{take_all, take_at, append-nil, length-take}
-use Rattle.teb_names.specs.declared.Cell.{Cell}
-use Rattle.teb_names.specs.declared.Session.{Session}
-use Rattle.teb_names.specs.declared.Request.{Request}
-use Rattle.teb_names.specs.declared.Reply.{Reply}
-use Rattle.teb_names.specs.declared.Reply.TheVariants.{Committed}
-use Rattle.teb_names.specs.Rows.{row_of, IsAscending}
-use Rattle.teb_history.specs.declared.Event.{Event}
+use Rattle.teb_rules.specs.declared.names.Cell.{Cell}
+use Rattle.teb_rules.specs.declared.names.Session.{Session}
+use Rattle.teb_rules.specs.declared.names.Request.{Request}
+use Rattle.teb_rules.specs.declared.names.Reply.{Reply}
+use Rattle.teb_rules.specs.declared.names.Reply.TheVariants.{Committed}
+use Rattle.teb_rules.specs.names.Rows.{row_of, IsAscending}
+use Rattle.teb_rules.specs.declared.history.Event.{Event}
 use Rattle.teb_rules.specs.Setup.{Setup, Store}
 use Rattle.teb_rules.specs.Accepted.{IsSound}
 use Rattle.teb_rules.specs.Answer.{answer}
 use Rattle.teb_rules.specs.Run.{history_after}
-use Rattle.teb_laws.proofs.Sound.{tree_facts}
+use Rattle.teb_rules.proofs.lemmas.laws.Sound.{tree_facts}
 use Rattle.engine_core.specs.EngineModel.{IsReached}
 use Rattle.crash_disk.specs.Calls.{Promise, Tally, IsBefore}
 use Rattle.crash_disk.specs.Sizes.{default_capacity}
@@ -27,8 +27,8 @@ use Rattle.commit_journal.proofs.Replies.{Outcome, commits, others, outcome, com
 use Rattle.serial_order.specs.Tables.{IsFinalRows}
 use Rattle.script_text.specs.declared.Line.{Line}
 use Rattle.script_text.specs.declared.Answered.{Answered}
-use Rattle.replay_runner.specs.Logs.{Requests, log_of, replayed}
-use Rattle.replay_runner.proofs.Logged.{history_none, history_step}
+use Rattle.script_runner.specs.replay.Logs.{Requests, log_of, replayed}
+use Rattle.script_runner.proofs.lemmas.replay.Logged.{history_none, history_step}
 use Rattle.crash_runner.specs.Crashes.{calls_of, Through, AtOnce, AtCommit, AreRowsAfter}
 use Rattle.crash_runner.specs.Underway.{HasRoom, IsUnderway, HasAsked, StopsAt, IsRunOn}
 use Rattle.crash_runner.proofs.Steps.{lawful_of}

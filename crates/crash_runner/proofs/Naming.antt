@@ -3,20 +3,20 @@ use Rattle.std.proofs.Common.{◌≡◌, ℕ, Bool, List, [], ◌∷◌, ◌++�
 use Rattle.std.specs.Prelude.{All}
 use Rattle.std.proofs.Math.ListN.{get_or-append}
 use Rattle.std.proofs.lemmas.List.{append-nil}
-use Rattle.teb_names.specs.declared.Cell.{Cell}
-use Rattle.teb_history.specs.declared.Event.{Event}
+use Rattle.teb_rules.specs.declared.names.Cell.{Cell}
+use Rattle.teb_rules.specs.declared.history.Event.{Event}
 use Rattle.teb_rules.specs.Run.{history_after}
 use Rattle.engine_core.specs.EngineModel.{IsReached}
 use Rattle.serial_order.specs.Tables.{IsFinalRows}
 use Rattle.script_text.specs.declared.Answered.{Answered}
 use Rattle.script_text.specs.Named.{ReplyNamed, RowsNamed}
-use Rattle.replay_runner.specs.Logs.{Requests, log_of}
+use Rattle.script_runner.specs.replay.Logs.{Requests, log_of}
 use Rattle.store_setup.specs.SetupView.{SetupView}
 use Rattle.store_setup.specs.Sound.{IsWhole, IsNamed}
 use Rattle.store_setup.specs.Stores.{store_of_view, names_of}
-use Rattle.input_runner.specs.Runs.{IsRunOver}
+use Rattle.script_runner.specs.Runs.{IsRunOver}
 use Rattle.printed_run.proofs.Histories.{rows_named}
-use Rattle.input_runner.proofs.Runs.{history_over, replies_named}
+use Rattle.script_runner.proofs.Runs.{history_over, replies_named}
 use Rattle.crash_runner.specs.Crashes.{Course, Through, AtOnce, AtCommit}
 
 all_front : {A : Type 0} (P : A → Type 0) (xs ys : List A) → All P (xs ++ ys) → All P xs

@@ -1,9 +1,9 @@
 -- The output of a run on a disk and of a recovery.
 use Rattle.std.proofs.Common.{◌≡◌, ℕ, Bool, List, [], length, None, refl, sym, ◌∙◌, ap, subst, ℤ}
 use Rattle.std.specs.Prelude.{All}
-use Rattle.teb_names.specs.declared.Cell.{Cell}
-use Rattle.teb_names.specs.declared.naming.NameBook.{NameBook}
-use Rattle.teb_names.specs.Rows.{row_of, IsAscending}
+use Rattle.teb_rules.specs.declared.names.Cell.{Cell}
+use Rattle.teb_rules.specs.declared.names.naming.NameBook.{NameBook}
+use Rattle.teb_rules.specs.names.Rows.{row_of, IsAscending}
 use Rattle.teb_rules.specs.Run.{history_after}
 use Rattle.crash_disk.specs.Calls.{Tally}
 use Rattle.record_journal.specs.Format.{Record}
@@ -13,7 +13,7 @@ use Rattle.commit_laws.specs.Records.{records_of}
 use Rattle.commit_laws.proofs.Prefixes.{length-records}
 use Rattle.script_text.specs.declared.Answered.{Answered}
 use Rattle.script_text.specs.Named.{ReplyNamed, RowsNamed}
-use Rattle.replay_runner.specs.Logs.{log_of, replayed}
+use Rattle.script_runner.specs.replay.Logs.{log_of, replayed}
 use Rattle.store_setup.specs.SetupView.{SetupView}
 use Rattle.store_setup.specs.Sound.{IsWhole, IsNamed}
 use Rattle.command_output.specs.Shown.{Shown}

@@ -3,20 +3,20 @@ use Rattle.std.proofs.Common.{◌≡◌, ◌≤◌, ◌<◌, ◌+◌, ◌-◌, �
 use Rattle.std.proofs.lemmas.Bool.{cases_lt}
 use Rattle.std.proofs.lemmas.List.{take_all}
 use Rattle.std.proofs.lemmas.List.Sums.{sum_by-append}
-use Rattle.teb_names.specs.declared.Session.{Session}
-use Rattle.teb_names.specs.declared.Request.{Request}
-use Rattle.teb_names.specs.declared.Request.TheVariants.{Begin, Read, Write, Add, Delete, Scan, Prepare, Commit, Abort, End}
-use Rattle.teb_names.specs.declared.Reply.{Reply}
-use Rattle.teb_names.specs.declared.Reply.TheVariants as reply
-use Rattle.teb_history.specs.declared.Event.{Event}
-use Rattle.teb_history.specs.declared.Event.TheVariants.{Done}
+use Rattle.teb_rules.specs.declared.names.Session.{Session}
+use Rattle.teb_rules.specs.declared.names.Request.{Request}
+use Rattle.teb_rules.specs.declared.names.Request.TheVariants.{Begin, Read, Write, Add, Delete, Scan, Prepare, Commit, Abort, End}
+use Rattle.teb_rules.specs.declared.names.Reply.{Reply}
+use Rattle.teb_rules.specs.declared.names.Reply.TheVariants as reply
+use Rattle.teb_rules.specs.declared.history.Event.{Event}
+use Rattle.teb_rules.specs.declared.history.Event.TheVariants.{Done}
 use Rattle.teb_rules.specs.Setup.{Setup, Store}
 use Rattle.teb_rules.specs.Accepted.{IsSound}
 use Rattle.teb_rules.specs.Answer.{answer}
 use Rattle.teb_rules.specs.Run.{history_after}
-use Rattle.teb_laws.specs.Lawful.{Lawful}
-use Rattle.teb_laws.proofs.Sound.{tree_facts}
-use Rattle.teb_laws.proofs.Reachable.{run_good, empty_good}
+use Rattle.teb_rules.specs.laws.Lawful.{Lawful}
+use Rattle.teb_rules.proofs.lemmas.laws.Sound.{tree_facts}
+use Rattle.teb_rules.proofs.lemmas.laws.Reachable.{run_good, empty_good}
 use Rattle.engine_core.specs.EngineModel.{IsReached}
 use Rattle.engine_core.proofs.Reached.{reached_more}
 use Rattle.crash_disk.specs.Calls.{Promise, Tally, IsBefore, AreSure, Fails, IsUpTo}
@@ -32,8 +32,8 @@ use Rattle.commit_journal.specs.Whole.{HasFirst}
 use Rattle.commit_journal.proofs.Asked.{committing_unfinished}
 use Rattle.commit_journal.proofs.Replies.{commits, others, outcome, committed_now}
 use Rattle.script_text.specs.declared.Answered.{Answered}
-use Rattle.replay_runner.specs.Logs.{Requests, log_of}
-use Rattle.replay_runner.proofs.Logged.{history_none}
+use Rattle.script_runner.specs.replay.Logs.{Requests, log_of}
+use Rattle.script_runner.proofs.lemmas.replay.Logged.{history_none}
 use Rattle.crash_runner.specs.Crashes.{calls_of, is_committed, committed_replies}
 use Rattle.crash_runner.specs.Underway.{IsRoomy, HasRoom, IsUnderway, StopsAt, effects, weight}
 

@@ -1,12 +1,12 @@
 -- What is shown of a run on a disk that fails from one of its calls on: the replies before that, and what is recovered.
 use Rattle.std.specs.Prelude.{◌≡◌, ℕ, ◌+◌, ◌-◌, ◌*◌, ◌/◌, ◌<◌, ◌≤◌, Bool, true, false, if◌then◌else◌, List, [], ◌∷◌, ◌++◌, ℤ, None, codes, count_by}
 use Rattle.std.specs.List.{flat_map}
-use Rattle.teb_names.specs.declared.Cell.{Cell}
-use Rattle.teb_names.specs.declared.Reply.{Reply}
-use Rattle.teb_names.specs.declared.Reply.TheVariants.{Committed}
-use Rattle.teb_names.specs.declared.naming.NameBook.{NameBook}
-use Rattle.teb_names.specs.Rows.{row_of, IsAscending}
-use Rattle.teb_history.specs.declared.Event.{Event}
+use Rattle.teb_rules.specs.declared.names.Cell.{Cell}
+use Rattle.teb_rules.specs.declared.names.Reply.{Reply}
+use Rattle.teb_rules.specs.declared.names.Reply.TheVariants.{Committed}
+use Rattle.teb_rules.specs.declared.names.naming.NameBook.{NameBook}
+use Rattle.teb_rules.specs.names.Rows.{row_of, IsAscending}
+use Rattle.teb_rules.specs.declared.history.Event.{Event}
 use Rattle.teb_rules.specs.Setup.{Store}
 use Rattle.crash_disk.specs.Calls.{IsBefore}
 use Rattle.commit_laws.specs.Commits.{commit_count, rows_after}
@@ -15,7 +15,7 @@ use Rattle.script_text.specs.Texts.{line_text, reply_text, recovered_text}
 use Rattle.command_output.specs.Shown.{Shown}
 use Rattle.store_setup.specs.Stores.{store_of_view, names_of}
 use Rattle.input_reader.specs.Tasks.{Task}
-use Rattle.input_runner.specs.Runs.{IsReplay}
+use Rattle.script_runner.specs.Runs.{IsReplay}
 
 abbrev pub is_committed : Reply → Bool
 is_committed Committed = true

@@ -4,7 +4,7 @@ ghost use Rattle.std.specs.Prelude.{◌≡◌, ◌↔◌, ◌+◌, ◌≤◌, �
 ghost use Rattle.teb_rules.specs.Run.{history_after};
 ghost use Rattle.crash_disk.specs.Sizes.{default_capacity};
 ghost use Rattle.commit_journal.specs.Kept.{IsSameStore};
-ghost use Rattle.replay_runner.specs.Logs.{Requests, log_of};
+ghost use Rattle.script_runner.specs.replay.Logs.{Requests, log_of};
 ghost use Rattle.crash_runner.specs.Underway.{IsUnderway, HasAsked, StopsAt, effects, weight};
 ghost use Rattle.commit_journal.specs.declared.error.DurableError.TheVariants as errors;
 ghost use Rattle.crash_runner.specs.declared.halt.Halt.TheVariants as halts;
@@ -14,7 +14,7 @@ use commit_journal::{Durable, DurableError};
 use crash_disk::Disk;
 use script_text::{Answered, MOST_LINES};
 use std::alloc::Global;
-use teb_names::{Request, Session};
+use teb_rules::names::{Request, Session};
 use version_chain::Chains;
 
 /// Asks one request, and logs the reply. If the disk fails, the request was a commit, and nothing is logged.

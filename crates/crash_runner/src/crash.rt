@@ -1,7 +1,7 @@
 //! The command.
 
 ghost use Rattle.std.specs.Prelude.{◌≡◌, ◌≤◌, length, IfOk};
-ghost use Rattle.input_runner.specs.Runs.{IsSerialized};
+ghost use Rattle.script_runner.specs.Runs.{IsSerialized};
 ghost use Rattle.crash_runner.specs.Crashes.{IsCrash};
 
 use crate::kept::recover_left;

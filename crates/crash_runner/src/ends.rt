@@ -4,8 +4,8 @@ ghost use Rattle.std.specs.Prelude.{◌≡◌, ◌↔◌, ◌≤◌, ◌++◌, m
 ghost use Rattle.teb_rules.specs.Run.{history_after};
 ghost use Rattle.crash_disk.specs.Sizes.{default_capacity};
 ghost use Rattle.commit_journal.specs.Kept.{IsSameStore};
-ghost use Rattle.replay_runner.specs.Holders.{end_of};
-ghost use Rattle.replay_runner.specs.Logs.{Requests, log_of};
+ghost use Rattle.script_runner.specs.replay.Holders.{end_of};
+ghost use Rattle.script_runner.specs.replay.Logs.{Requests, log_of};
 ghost use Rattle.crash_runner.specs.Underway.{IsUnderway, HasAsked, StopsAt, effects};
 ghost use Rattle.crash_runner.specs.declared.halt.Halt.TheVariants as halts;
 
@@ -15,7 +15,7 @@ use commit_journal::Durable;
 use crash_disk::Disk;
 use script_text::{Answered, MOST_LINES};
 use std::alloc::Global;
-use teb_names::{Request, Session};
+use teb_rules::names::{Request, Session};
 use version_chain::Chains;
 
 /// Asks End for each of the sessions, and logs the replies.

@@ -1,8 +1,8 @@
 //! What is recovered from the disk after a run.
 
 ghost use Rattle.std.specs.Prelude.{◌≡◌, List, length, IfOk};
-ghost use Rattle.teb_names.specs.declared.Cell.{Cell};
-ghost use Rattle.teb_names.specs.Rows.{row_of, IsAscending};
+ghost use Rattle.teb_rules.specs.declared.names.Cell.{Cell};
+ghost use Rattle.teb_rules.specs.names.Rows.{row_of, IsAscending};
 ghost use Rattle.crash_disk.specs.Sizes.{default_capacity};
 ghost use Rattle.record_journal.specs.Format.{Record, recovered, Whole};
 ghost use Rattle.record_journal.specs.Journal.{after_records};
@@ -12,7 +12,7 @@ use commit_journal::recover;
 use crash_disk::{Disk, MemDisk};
 use record_journal::{RecoverError, Recovered};
 use std::alloc::{AllocError, Global};
-use teb_names::Rows;
+use teb_rules::names::Rows;
 
 /// Returns the rows that the records of a disk leave over some starting rows, after everything that was not safe is lost.
 pub(crate) fn recover_left(

@@ -4,7 +4,7 @@ ghost use Rattle.std.specs.Prelude.{◌≡◌, ◌↔◌, ◌+◌, ◌≤◌, �
 ghost use Rattle.teb_rules.specs.Run.{history_after};
 ghost use Rattle.crash_disk.specs.Sizes.{default_capacity};
 ghost use Rattle.commit_journal.specs.Kept.{IsSameStore};
-ghost use Rattle.replay_runner.specs.Logs.{Requests, log_of, requests_of};
+ghost use Rattle.script_runner.specs.replay.Logs.{Requests, log_of, requests_of};
 ghost use Rattle.crash_runner.specs.Underway.{IsUnderway, HasAsked, StopsAt, effects};
 ghost use Rattle.crash_runner.specs.declared.halt.Halt.TheVariants as halts;
 

@@ -7,7 +7,7 @@ ghost use Rattle.store_setup.specs.Sound.{IsWhole};
 ghost use Rattle.store_setup.specs.Stores.{store_of_view};
 ghost use Rattle.crash_disk.specs.Sizes.{default_capacity};
 ghost use Rattle.commit_journal.specs.Kept.{IsSameStore};
-ghost use Rattle.replay_runner.specs.Logs.{log_of, replayed};
+ghost use Rattle.script_runner.specs.replay.Logs.{log_of, replayed};
 ghost use Rattle.crash_runner.specs.Underway.{IsUnderway, HasAsked, StopsAt, IsRunOn, effects};
 ghost use Rattle.crash_runner.specs.declared.halt.Halt.TheVariants as halts;
 
@@ -18,7 +18,7 @@ use chain_pool::PooledChains;
 use commit_journal::{CreateError, Durable};
 use crash_disk::{Disk, MemDisk};
 use engine_core::Engine;
-use replay_runner::holding_sessions;
+use script_runner::replay::holding_sessions;
 use script_text::{Answered, Line, MOST_LINES};
 use std::alloc::{AllocError, Global};
 use store_setup::Setup;

@@ -4,7 +4,7 @@ ghost use Rattle.std.specs.Prelude.{◌≡◌, IfOk};
 
 use std::alloc::{AllocError, Global};
 use store_setup::Setup;
-use teb_names::{NameBook, Names, Rows};
+use teb_rules::names::{NameBook, Names, Rows};
 
 /// The names of a setup, and its starting rows.
 #[derive(Drop)]

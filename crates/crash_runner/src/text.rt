@@ -4,11 +4,11 @@ ghost use Rattle.std.specs.Prelude.{◌≡◌, ◌++◌, All, IfOk, OnOk};
 ghost use Rattle.script_text.specs.Named.{ReplyNamed, RowsNamed};
 ghost use Rattle.crash_runner.specs.Crashes.{crash_text, stop_text};
 
-use input_runner::put_replies;
 use record_journal::Recovered;
+use script_runner::put_replies;
 use script_text::{Answered, put_recovered};
 use std::alloc::{AllocError, Global};
-use teb_names::NameBook;
+use teb_rules::names::NameBook;
 
 /// Returns the replies that were given, whether the run stopped, and what was recovered.
 pub(crate) fn text_of(

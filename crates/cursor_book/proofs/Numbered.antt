@@ -4,7 +4,7 @@ use Rattle.std.proofs.Math.ListN.{set}
 use Rattle.std.proofs.Math.Seq.{set-append_seam, get_or-append_seam}
 use Rattle.std.proofs.lemmas.List.{map-append, get_or_append_left, set-append_left}
 use Rattle.std.proofs.lemmas.Bool.{cases_lt}
-use Rattle.teb_history.specs.Phases.{numbers}
+use Rattle.teb_rules.specs.history.Phases.{numbers}
 
 map_more : (f : ℕ → ℕ) (n : ℕ) → map f (numbers (suc n)) ≡ map f (numbers n) ++ f (suc n) ∷ []
 unfolding numbers

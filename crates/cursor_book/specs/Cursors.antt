@@ -1,7 +1,7 @@
 -- The cursors of the transactions of a history, as a list.
 use Rattle.std.specs.Prelude.{◌≡◌, ℕ, ◌-◌, List, map, slice_index, slice_set, unwrap_or}
-use Rattle.teb_history.specs.declared.Event.{Event}
-use Rattle.teb_history.specs.Phases.{txns}
+use Rattle.teb_rules.specs.declared.history.Event.{Event}
+use Rattle.teb_rules.specs.history.Phases.{txns}
 use Rattle.teb_rules.specs.Setup.{Setup}
 use Rattle.teb_rules.specs.Steps.{cursor, least_step}
 

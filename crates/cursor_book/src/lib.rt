@@ -1,7 +1,7 @@
 //! The cursor of each transaction: the step of its profile at which it is.
 //!
 //! A transaction begins at step 0. An access of a table moves it to the first step, from there on, that has the table
-//! (`txn_profile`). A pipeline needs the cursor to tell which ranks a transaction has passed; the engine needs it to refuse accesses
+//! (`store_setup::profile`). A pipeline needs the cursor to tell which ranks a transaction has passed; the engine needs it to refuse accesses
 //! that the profile does not have.
 //!
 //! ```text
@@ -23,8 +23,8 @@ ghost use Rattle.cursor_book.specs.Cursors.{cursor_in, moved};
 
 use std::alloc::{AllocError, Global};
 use std::marker::Model;
-use teb_names::{Table, Txn};
-use txn_profile::Profile;
+use store_setup::profile::Profile;
+use teb_rules::names::{Table, Txn};
 
 /// Room is made for this many transactions more than are asked for.
 const AHEAD: usize = 256;

@@ -1,9 +1,9 @@
 -- An event that the rules grant may follow the history.
 use Rattle.std.proofs.Common.{List}
-use Rattle.teb_history.specs.declared.Event.{Event}
-use Rattle.teb_history.specs.declared.Event.TheVariants.{Began, Got, Put, Ready, Done, Gone, Told}
+use Rattle.teb_rules.specs.declared.history.Event.{Event}
+use Rattle.teb_rules.specs.declared.history.Event.TheVariants.{Began, Got, Put, Ready, Done, Gone, Told}
 use Rattle.teb_rules.specs.Setup.{Setup}
-use Rattle.teb_laws.specs.Lawful.{Granted}
+use Rattle.teb_rules.specs.laws.Lawful.{Granted}
 use Rattle.dependency_book.specs.Orderly.{MayFollow}
 
 pub granted_follows : (S : Setup) (P : List Event) (e : Event) → Granted S P e → MayFollow P e

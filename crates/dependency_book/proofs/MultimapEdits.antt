@@ -1,9 +1,9 @@
 -- What edits do to the lists of cells.
 use Rattle.std.proofs.Common.{◌≡◌, ℕ, suc, ◌+◌, Bool, true, false, cond, List, [], ◌∷◌, sym, ◌∙◌, ap, arith}
 use Rattle.std.specs.List.{count_by}
-use Rattle.teb_names.specs.declared.Cell.{Cell}
+use Rattle.teb_rules.specs.declared.names.Cell.{Cell}
 use Rattle.dependency_book.specs.declared.registers.Registers.{Registers}
-use Rattle.teb_history.specs.declared.Event.{Event}
+use Rattle.teb_rules.specs.declared.history.Event.{Event}
 use Rattle.sorted_multimap.specs.LastMatches.{without_last, without_lasts}
 pub use Rattle.sorted_multimap.proofs.TxnKeys.{one_txn}
 use Rattle.dependency_book.specs.Places.{Room, HasRoom}

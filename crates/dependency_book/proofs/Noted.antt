@@ -4,35 +4,35 @@ use Rattle.std.specs.List.{count_by}
 use Rattle.std.proofs.lemmas.Bool.{eqb-true, ne_eqb, eq-eqb}
 use Rattle.std.proofs.lemmas.List.{map-append}
 use Rattle.std.proofs.lemmas.List.Elements.{filter-append}
-use Rattle.teb_names.specs.declared.Txn.{Txn}
-use Rattle.teb_names.specs.declared.Cell.{Cell}
-use Rattle.teb_names.specs.declared.Session.{Session}
-use Rattle.teb_names.specs.declared.Kind.{Kind}
-use Rattle.teb_names.specs.declared.Cause.{Cause}
-use Rattle.teb_names.specs.Cells.{same_cell}
-use Rattle.teb_history.specs.declared.Event.{Event}
-use Rattle.teb_history.specs.declared.Event.TheVariants.{Began, Got, Put, Ready, Done, Gone, Told}
-use Rattle.teb_history.specs.Phases.{is_began, is_done, is_gone, begun, committed, aborted, unfinished, begun_count, numbers, txns}
-use Rattle.teb_history.specs.Ascending.{AllAbove, IsAscendingBy, put_by}
-use Rattle.teb_history.specs.Live.{number_of}
-use Rattle.teb_history.specs.Accesses.{wrote}
-use Rattle.teb_history.specs.OwnEvents.{own_events}
+use Rattle.teb_rules.specs.declared.names.Txn.{Txn}
+use Rattle.teb_rules.specs.declared.names.Cell.{Cell}
+use Rattle.teb_rules.specs.declared.names.Session.{Session}
+use Rattle.teb_rules.specs.declared.names.Kind.{Kind}
+use Rattle.teb_rules.specs.declared.names.Cause.{Cause}
+use Rattle.teb_rules.specs.names.Cells.{same_cell}
+use Rattle.teb_rules.specs.declared.history.Event.{Event}
+use Rattle.teb_rules.specs.declared.history.Event.TheVariants.{Began, Got, Put, Ready, Done, Gone, Told}
+use Rattle.teb_rules.specs.history.Phases.{is_began, is_done, is_gone, begun, committed, aborted, unfinished, begun_count, numbers, txns}
+use Rattle.teb_rules.specs.history.Ascending.{AllAbove, IsAscendingBy, put_by}
+use Rattle.teb_rules.specs.history.Live.{number_of}
+use Rattle.teb_rules.specs.history.Accesses.{wrote}
+use Rattle.teb_rules.specs.history.OwnEvents.{own_events}
 use Rattle.sorted_multimap.specs.LastMatches.{without_lasts}
 use Rattle.dependency_book.specs.Dependencies.{has, reads, puts, all_readers, all_writers, all_sources, readers, writers, sources, unfinished_txns}
 use Rattle.dependency_book.specs.Orderly.{MayFollow, Orderly}
 use Rattle.dependency_book.specs.Books.{Lists, BookOf, readers_in, writers_in, sources_in, list_of}
 use Rattle.sorted_multimap.proofs.TakenMatches.{without_all, count_kept}
-use Rattle.teb_names.proofs.SameCells.{same_cell-true}
-use Rattle.teb_names.proofs.Bools.{eqb_swap}
+use Rattle.teb_rules.proofs.lemmas.names.SameCells.{same_cell-true}
+use Rattle.teb_rules.proofs.lemmas.names.Bools.{eqb_swap}
 use Rattle.dependency_book.proofs.SourceLists.{no_lists, one_more}
 use Rattle.dependency_book.proofs.OwnAccesses.{put_by_it, reads_counted, puts_counted}
 use Rattle.dependency_book.proofs.OrderlyHistories.{unfinished_is, unfinished_parts, aborted_same, known, fresh}
 use Rattle.dependency_book.proofs.Positive.{begun_pos}
-use Rattle.teb_laws.proofs.AscendingNumbers.{number, txns_ascending}
-use Rattle.teb_laws.proofs.Holding.{unfinished_same}
-use Rattle.teb_history.proofs.AscendingLists.{ascending-filter}
-use Rattle.teb_history.proofs.Filters.{filter_both, filter_push}
-use Rattle.teb_history.proofs.Newest.{aborted-cons, unfinished-cons}
+use Rattle.teb_rules.proofs.lemmas.laws.AscendingNumbers.{number, txns_ascending}
+use Rattle.teb_rules.proofs.lemmas.laws.Holding.{unfinished_same}
+use Rattle.teb_rules.proofs.lemmas.history.AscendingLists.{ascending-filter}
+use Rattle.teb_rules.proofs.lemmas.history.Filters.{filter_both, filter_push}
+use Rattle.teb_rules.proofs.lemmas.history.Newest.{aborted-cons, unfinished-cons}
 
 -- filters
 module _ {A : Type 0} where

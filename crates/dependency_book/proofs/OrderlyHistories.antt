@@ -1,13 +1,13 @@
 -- What one more event changes of which transactions are unfinished, and what holds of histories each of whose events could occur.
 use Rattle.std.proofs.Common.{◌≡◌, ◌⊎◌, ℕ, ◌<◌, ◌≤◌, Bool, true, false, not, ◌&&◌, ◌||◌, List, [], ◌∷◌, refl, sym, ◌∙◌, ap, subst, inl, inr, arith}
 use Rattle.std.proofs.lemmas.Bool.{eqb-true, false_from_ne_true}
-use Rattle.teb_history.specs.declared.Event.{Event}
-use Rattle.teb_history.specs.declared.Event.TheVariants.{Began, Got, Put, Ready, Done, Gone, Told}
-use Rattle.teb_history.specs.Positions.{first_event, came}
-use Rattle.teb_history.specs.Phases.{is_began, is_done, is_gone, began_at, done_at, gone_at, begun, committed, aborted, unfinished, begun_count}
-use Rattle.teb_history.proofs.Any.{came_any}
+use Rattle.teb_rules.specs.declared.history.Event.{Event}
+use Rattle.teb_rules.specs.declared.history.Event.TheVariants.{Began, Got, Put, Ready, Done, Gone, Told}
+use Rattle.teb_rules.specs.history.Positions.{first_event, came}
+use Rattle.teb_rules.specs.history.Phases.{is_began, is_done, is_gone, began_at, done_at, gone_at, begun, committed, aborted, unfinished, begun_count}
+use Rattle.teb_rules.proofs.lemmas.history.Any.{came_any}
 use Rattle.dependency_book.specs.Orderly.{Orderly}
-use Rattle.teb_history.proofs.Newest.{begun-cons, committed-cons, aborted-cons}
+use Rattle.teb_rules.proofs.lemmas.history.Newest.{begun-cons, committed-cons, aborted-cons}
 
 pub unfinished_is : (P : List Event) (u : ℕ) → unfinished P u ≡ (begun P u && not (committed P u) && not (aborted P u))
 unfolding unfinished

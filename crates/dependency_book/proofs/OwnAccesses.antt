@@ -1,16 +1,16 @@
 -- What a transaction's own events read and put, compared with the readers and the writers of each cell.
 use Rattle.std.proofs.Common.{◌≡◌, ◌≤◌, ℕ, ℤ, ◌+◌, Bool, true, false, cond, not, ◌&&◌, ◌||◌, eqb, is_some, List, [], ◌∷◌, ◌++◌, Option, Some, None, refl, sym, ◌∙◌, ap, arith}
 use Rattle.std.specs.List.{list_any, count_by}
-use Rattle.teb_names.specs.declared.Txn.{Txn}
-use Rattle.teb_names.specs.declared.Cell.{Cell}
-use Rattle.teb_names.specs.Cells.{same_cell}
-use Rattle.teb_names.proofs.Bools.{or_false}
-use Rattle.teb_history.specs.declared.Event.{Event}
-use Rattle.teb_history.specs.declared.Event.TheVariants.{Began, Got, Put, Ready, Done, Gone, Told}
-use Rattle.teb_history.specs.Accesses.{is_put, put_at, wrote}
-use Rattle.teb_history.specs.OwnEvents.{is_of, own_events}
-use Rattle.teb_history.proofs.Any.{came_any}
-use Rattle.teb_history.proofs.Newest.{wrote-cons}
+use Rattle.teb_rules.specs.declared.names.Txn.{Txn}
+use Rattle.teb_rules.specs.declared.names.Cell.{Cell}
+use Rattle.teb_rules.specs.names.Cells.{same_cell}
+use Rattle.teb_rules.proofs.lemmas.names.Bools.{or_false}
+use Rattle.teb_rules.specs.declared.history.Event.{Event}
+use Rattle.teb_rules.specs.declared.history.Event.TheVariants.{Began, Got, Put, Ready, Done, Gone, Told}
+use Rattle.teb_rules.specs.history.Accesses.{is_put, put_at, wrote}
+use Rattle.teb_rules.specs.history.OwnEvents.{is_of, own_events}
+use Rattle.teb_rules.proofs.lemmas.history.Any.{came_any}
+use Rattle.teb_rules.proofs.lemmas.history.Newest.{wrote-cons}
 use Rattle.dependency_book.specs.Dependencies.{has, reads, puts, all_readers, all_writers}
 use Rattle.sorted_multimap.proofs.TakenMatches.{count_push, count_cons}
 use Rattle.dependency_book.proofs.MultimapEdits.{one_txn}

@@ -1,8 +1,8 @@
 -- The lists of sources by transaction.
 use Rattle.std.proofs.Common.{◌≡◌, ℕ, zero, suc, ◌-◌, ◌<◌, List, [], ◌∷◌, ◌++◌, set, refl, ap, arith}
-use Rattle.teb_names.specs.declared.Txn.{Txn}
-use Rattle.teb_history.specs.Ascending.{IsAscendingBy}
-use Rattle.teb_history.specs.Live.{number_of}
+use Rattle.teb_rules.specs.declared.names.Txn.{Txn}
+use Rattle.teb_rules.specs.history.Ascending.{IsAscendingBy}
+use Rattle.teb_rules.specs.history.Live.{number_of}
 use Rattle.arena_multimap.specs.NumberedLists.{list_in}
 use Rattle.dependency_book.specs.Books.{list_of, SourcesAscend}
 

@@ -2,15 +2,15 @@
 use Rattle.std.proofs.Common.{◌≡◌, ℕ, ◌<◌, ◌≤◌, Bool, true, false, cond, not, ◌&&◌, ◌||◌, eqb, ltb, List, [], ◌∷◌, find, Some, None, refl, sym, ◌∙◌, ap, subst, arith}
 use Rattle.std.proofs.lemmas.Bool.Decides.{nat_tests}
 use Rattle.std.proofs.lemmas.Bool.{eqb-true, ne_eqb}
-use Rattle.teb_names.specs.declared.Txn.{Txn}
-use Rattle.teb_names.proofs.Bools.{and_false, eqb_swap}
-use Rattle.teb_history.specs.declared.Event.{Event}
-use Rattle.teb_history.specs.declared.Event.TheVariants.{Began, Got, Put, Ready, Done, Gone, Told}
-use Rattle.teb_history.specs.Phases.{aborted}
-use Rattle.teb_history.specs.Accesses.{read_from}
-use Rattle.teb_history.specs.Ascending.{AllAbove, IsAscendingBy, put_by}
-use Rattle.teb_history.specs.Live.{number_of}
-use Rattle.teb_history.proofs.AscendingLists.{ascending-put}
+use Rattle.teb_rules.specs.declared.names.Txn.{Txn}
+use Rattle.teb_rules.proofs.lemmas.names.Bools.{and_false, eqb_swap}
+use Rattle.teb_rules.specs.declared.history.Event.{Event}
+use Rattle.teb_rules.specs.declared.history.Event.TheVariants.{Began, Got, Put, Ready, Done, Gone, Told}
+use Rattle.teb_rules.specs.history.Phases.{aborted}
+use Rattle.teb_rules.specs.history.Accesses.{read_from}
+use Rattle.teb_rules.specs.history.Ascending.{AllAbove, IsAscendingBy, put_by}
+use Rattle.teb_rules.specs.history.Live.{number_of}
+use Rattle.teb_rules.proofs.lemmas.history.AscendingLists.{ascending-put}
 use Rattle.dependency_book.specs.Dependencies.{has, all_sources, sources}
 
 has-put : (w v : Txn) (ts : List Txn) → has w (put_by number_of v ts) ≡ (eqb v.0 w.0 || has w ts)

@@ -1,16 +1,16 @@
 -- Readers and writers in a history, the sources of each transaction, and the unfinished ones. An abort removes what its transaction read and put.
 use Rattle.std.specs.Prelude.{◌≡◌, Bool, cond, not, ◌&&◌, eqb, ltb, List, [], ◌∷◌, ◌++◌, filter, map, is_some}
 use Rattle.std.specs.List.{list_any}
-use Rattle.teb_names.specs.declared.Txn.{Txn}
-use Rattle.teb_names.specs.declared.Cell.{Cell}
-use Rattle.teb_names.specs.Cells.{same_cell}
-use Rattle.teb_history.specs.declared.Event.{Event}
-use Rattle.teb_history.specs.declared.Event.TheVariants.{Got, Put}
-use Rattle.teb_history.specs.Phases.{txns, aborted, unfinished}
-use Rattle.teb_history.specs.Accesses.{wrote}
-use Rattle.teb_history.specs.Ascending.{put_by}
-use Rattle.teb_history.specs.Live.{number_of}
-use Rattle.teb_history.specs.OwnEvents.{put_in, got_in}
+use Rattle.teb_rules.specs.declared.names.Txn.{Txn}
+use Rattle.teb_rules.specs.declared.names.Cell.{Cell}
+use Rattle.teb_rules.specs.names.Cells.{same_cell}
+use Rattle.teb_rules.specs.declared.history.Event.{Event}
+use Rattle.teb_rules.specs.declared.history.Event.TheVariants.{Got, Put}
+use Rattle.teb_rules.specs.history.Phases.{txns, aborted, unfinished}
+use Rattle.teb_rules.specs.history.Accesses.{wrote}
+use Rattle.teb_rules.specs.history.Ascending.{put_by}
+use Rattle.teb_rules.specs.history.Live.{number_of}
+use Rattle.teb_rules.specs.history.OwnEvents.{put_in, got_in}
 
 -- t is among the transactions
 abbrev pub has : Txn → List Txn → Bool

@@ -1,8 +1,8 @@
 -- Histories in which each event may follow those before it.
 use Rattle.std.specs.Prelude.{◌≡◌, suc, List, [], ◌∷◌, IsTrue}
-use Rattle.teb_history.specs.declared.Event.{Event}
-use Rattle.teb_history.specs.declared.Event.TheVariants.{Began, Got, Put, Ready, Done, Gone, Told}
-use Rattle.teb_history.specs.Phases.{begun_count, aborted, unfinished}
+use Rattle.teb_rules.specs.declared.history.Event.{Event}
+use Rattle.teb_rules.specs.declared.history.Event.TheVariants.{Began, Got, Put, Ready, Done, Gone, Told}
+use Rattle.teb_rules.specs.history.Phases.{begun_count, aborted, unfinished}
 
 -- the event may follow P
 abbrev pub MayFollow : List Event → Event → Type 0

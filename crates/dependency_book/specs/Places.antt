@@ -1,7 +1,7 @@
 -- The readers and writers of each cell: a cell has a place, and the lists of the cell have the number of its place.
 use Rattle.std.specs.Prelude.{◌≡◌, ◌≤◌, ◌*◌, ℕ, List, length}
-use Rattle.teb_names.specs.declared.Txn.{Txn}
-use Rattle.teb_names.specs.declared.Cell.{Cell}
+use Rattle.teb_rules.specs.declared.names.Txn.{Txn}
+use Rattle.teb_rules.specs.declared.names.Cell.{Cell}
 use Rattle.cell_index.specs.Cells.{Shown as Index}
 use Rattle.cell_index.specs.Lists.{list_for}
 use Rattle.arena_multimap.specs.NumberedLists.{Shown as Numbered}

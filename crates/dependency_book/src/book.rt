@@ -1,7 +1,7 @@
 //! The book: what each event adds, and the lists that it lends.
 
 ghost use Rattle.std.specs.Prelude.{◌≡◌, ◌+◌, ◌<◌, ◌≤◌, ◌∷◌, [], List, OnOk, OnErr};
-ghost use Rattle.teb_history.specs.declared.Event.{Event};
+ghost use Rattle.teb_rules.specs.declared.history.Event.{Event};
 ghost use Rattle.dependency_book.specs.Books.{BookOf, readers_in, writers_in, sources_in};
 ghost use Rattle.dependency_book.specs.Dependencies.{IsAgain};
 ghost use Rattle.dependency_book.specs.Orderly.{MayFollow};
@@ -10,8 +10,8 @@ use crate::registers::Registers;
 use crate::source_lists;
 use std::alloc::{AllocError, Global};
 use std::marker::Model;
-use teb_history::{Event, History};
-use teb_names::{Cell, Txn};
+use teb_rules::history::{Event, History};
+use teb_rules::names::{Cell, Txn};
 
 /// Room is made for at least this many events, so that not every `reserve` goes through all registers.
 const AHEAD: usize = 256;

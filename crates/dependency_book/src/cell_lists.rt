@@ -2,10 +2,10 @@
 
 ghost use Rattle.std.specs.Prelude.{◌≡◌, ◌<◌, ◌≤◌, ◌+◌, ◌++◌, ◌∷◌, [], ℕ, cond, eqb, OnOk};
 ghost use Rattle.std.specs.List.{count_by};
-ghost use Rattle.teb_names.specs.declared.Cell.{Cell};
-ghost use Rattle.teb_names.specs.declared.Txn.{Txn};
-ghost use Rattle.teb_names.specs.Cells.{same_cell};
-ghost use Rattle.teb_history.specs.OwnEvents.{own_events};
+ghost use Rattle.teb_rules.specs.declared.names.Cell.{Cell};
+ghost use Rattle.teb_rules.specs.declared.names.Txn.{Txn};
+ghost use Rattle.teb_rules.specs.names.Cells.{same_cell};
+ghost use Rattle.teb_rules.specs.history.OwnEvents.{own_events};
 ghost use Rattle.cell_index.specs.Cells.{place_in, with_cell, with_place};
 ghost use Rattle.sorted_multimap.specs.LastMatches.{IsLastPlace, without_last, without_lasts};
 ghost use Rattle.dependency_book.specs.Dependencies.{reads, puts};
@@ -15,8 +15,8 @@ use arena_multimap::NumberedLists;
 use cell_index::CellIndex;
 use std::alloc::{AllocError, Global};
 use std::marker::Model;
-use teb_history::{Event, History};
-use teb_names::{Cell, Txn};
+use teb_rules::history::{Event, History};
+use teb_rules::names::{Cell, Txn};
 
 /// By cell, its readers, each beside the writer that it read from, and its writers, in order of access.
 #[derive(Drop)]

@@ -1,12 +1,12 @@
 //! The lists of a book, and what an event of each kind adds or removes.
 
 ghost use Rattle.std.specs.Prelude.{◌≡◌, ◌+◌, ℕ, List, ◌∷◌, [], Option, ℤ, OnOk};
-ghost use Rattle.teb_names.specs.declared.Cause.{Cause};
-ghost use Rattle.teb_names.specs.declared.Session.{Session};
-ghost use Rattle.teb_names.specs.declared.Kind.{Kind};
-ghost use Rattle.teb_history.specs.declared.Event.{Event};
-ghost use Rattle.teb_history.specs.declared.Event.TheVariants as event;
-ghost use Rattle.teb_history.specs.Accesses.{wrote};
+ghost use Rattle.teb_rules.specs.declared.names.Cause.{Cause};
+ghost use Rattle.teb_rules.specs.declared.names.Session.{Session};
+ghost use Rattle.teb_rules.specs.declared.names.Kind.{Kind};
+ghost use Rattle.teb_rules.specs.declared.history.Event.{Event};
+ghost use Rattle.teb_rules.specs.declared.history.Event.TheVariants as event;
+ghost use Rattle.teb_rules.specs.history.Accesses.{wrote};
 ghost use Rattle.dependency_book.specs.Books.{BookOf, lists_of, SourcesAscend, HasRooms};
 ghost use Rattle.dependency_book.specs.Dependencies.{IsAgain};
 ghost use Rattle.dependency_book.specs.Orderly.{MayFollow};
@@ -15,8 +15,8 @@ use crate::cell_lists::CellLists;
 use crate::source_lists;
 use arena_multimap::NumberedLists;
 use std::alloc::{AllocError, Global};
-use teb_history::{Event, History};
-use teb_names::{Cell, Txn};
+use teb_rules::history::{Event, History};
+use teb_rules::names::{Cell, Txn};
 
 /// Readers and writers, the sources of each transaction, and the unfinished transactions.
 #[derive(Drop)]
@@ -123,7 +123,7 @@ impl Registers {
         ensures room { (n : ℕ) → HasRooms self.old n → HasRooms self.new n }
         ensures book { (P : List Event) → BookOf (lists_of self.old) P → MayFollow P (event.Done t) → BookOf (lists_of self.new) (event.Done t ∷ P) }
     {
-        teb_history::remove_txn(&mut self.unfinished, t);
+        teb_rules::history::remove_txn(&mut self.unfinished, t);
     }
 
     /// Notes an abort, by the newest event of the history.
@@ -136,6 +136,6 @@ impl Registers {
     {
         self.cells.forget_accesses(history, t);
         source_lists::clear_sources(&mut self.sources, t);
-        teb_history::remove_txn(&mut self.unfinished, t);
+        teb_rules::history::remove_txn(&mut self.unfinished, t);
     }
 }

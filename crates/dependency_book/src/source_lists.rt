@@ -2,13 +2,13 @@
 //! which they begin, and lists from 0.
 
 ghost use Rattle.std.specs.Prelude.{◌≡◌, ◌+◌, ◌≤◌, ◌<◌, ◌&&◌, [], cond, not, eqb, ltb, length};
-ghost use Rattle.teb_names.specs.declared.Txn.{Txn};
-ghost use Rattle.teb_history.specs.Ascending.{put_by};
-ghost use Rattle.teb_history.specs.Live.{number_of};
+ghost use Rattle.teb_rules.specs.declared.names.Txn.{Txn};
+ghost use Rattle.teb_rules.specs.history.Ascending.{put_by};
+ghost use Rattle.teb_rules.specs.history.Live.{number_of};
 ghost use Rattle.dependency_book.specs.Books.{list_of, SourcesAscend};
 
 use arena_multimap::NumberedLists;
-use teb_names::Txn;
+use teb_rules::names::Txn;
 
 /// Returns the sources of t. They are empty if t has no list.
 pub(crate) fn sources_of(sources: &NumberedLists<Txn>, t: Txn) -> &[Txn]

@@ -1,6 +1,6 @@
 -- Logs of the driver as lists of entries.
 use Rattle.std.proofs.Common.{◌≡◌, ℕ, List, [], ◌∷◌, None, refl, subst}
-use Rattle.teb_names.specs.declared.Entry.{Entry}
+use Rattle.teb_rules.specs.declared.names.Entry.{Entry}
 use Rattle.teb_rules.specs.Driver.{Drive, Follows, Turns, drive, drive_after, driven, seated, turn_after}
 use Rattle.teb_rules.specs.Run.{history_after, requests_of}
 use Rattle.teb_rules.specs.Scripts.{Script}

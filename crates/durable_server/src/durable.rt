@@ -1,14 +1,14 @@
 //! A store with one journal as a server.
 
 ghost use Rattle.std.specs.Prelude.{◌≡◌};
-ghost use Rattle.teb_names.specs.declared.Reply.TheVariants as replies;
+ghost use Rattle.teb_rules.specs.declared.names.Reply.TheVariants as replies;
 
 use commit_journal::{Durable, DurableError};
 use crash_disk::Disk;
 use hall_server::{Failure, Fault, Server};
 use std::alloc::Global;
-use teb_history::History;
-use teb_names::{Reply, Request, Session};
+use teb_rules::history::History;
+use teb_rules::names::{Reply, Request, Session};
 use version_chain::Chains;
 
 /// An engine with a journal on a disk, as a hall serves it. A commit is on the disk before it is answered. If the disk fails at a

@@ -9,7 +9,7 @@ use engine_store::{AskError, EngineStore, NextError, OpenError};
 use file_disk::FileDisk;
 use std::alloc::{AllocError, Global};
 use store_setup::Setup;
-use teb_names::{Cell, Kind, Refusal, Reply, Request, Session, Spot, Table};
+use teb_rules::names::{Cell, Kind, Refusal, Reply, Request, Session, Spot, Table};
 use thiserror::Error;
 use tree_toml::read_tree;
 

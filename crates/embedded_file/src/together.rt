@@ -5,7 +5,7 @@ use chain_pool::PooledChains;
 use engine_store::{AskError, EngineGroup};
 use file_disk::FileDisk;
 use std::alloc::Global;
-use teb_names::{Reply, Request};
+use teb_rules::names::{Reply, Request};
 
 /// The bank while its commits wait.
 type BankGroup = EngineGroup<PooledChains, FileDisk>;

@@ -6,7 +6,7 @@ ghost use Rattle.session_server.specs.Passes.{IsPassOf};
 use session_server::{AskError, Hall, Pass};
 use std::sync::Wait;
 use std::thread;
-use teb_names::{Cell, Kind, Refusal, Reply, Request, Spot, Table};
+use teb_rules::names::{Cell, Kind, Refusal, Reply, Request, Spot, Table};
 use version_chain::Chains;
 
 /// The type of transaction that moves money, by its place in the tree text.

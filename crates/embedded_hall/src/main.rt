@@ -27,7 +27,7 @@ use session_server::{Hall, Pass};
 use std::alloc::Global;
 use std::sync::Wait;
 use std::thread::{self, Threads};
-use teb_names::SESSIONS;
+use teb_rules::names::SESSIONS;
 use tree_toml::read_tree;
 use version_chain::Chains;
 

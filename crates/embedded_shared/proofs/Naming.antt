@@ -1,5 +1,5 @@
 -- The names that a store server has, as a printed run needs them.
-use Rattle.teb_names.specs.declared.naming.NameBook.{NameBook}
+use Rattle.teb_rules.specs.declared.names.naming.NameBook.{NameBook}
 use Rattle.teb_rules.specs.Setup.{Store}
 use Rattle.printed_run.specs.Printed.{IsNamedBy}
 use Rattle.store_server.specs.Trees.{IsWellNamed}

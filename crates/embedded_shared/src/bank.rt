@@ -11,7 +11,7 @@ use epoch_journal::EpochJournal;
 use serial_order::tables;
 use std::alloc::Global;
 use store_server::StoreServer;
-use teb_names::Txn;
+use teb_rules::names::Txn;
 
 /// The accounts, and a row for each session that counts its transfers.
 const TREE: &[u8] = br#"

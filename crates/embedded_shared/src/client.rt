@@ -8,7 +8,7 @@ use std::alloc::Global;
 use std::sync::Wait;
 use std::thread;
 use std::time::{Clock, Duration};
-use teb_names::{Cell, Kind, Refusal, Reply, Request, Session, Spot, Table};
+use teb_rules::names::{Cell, Kind, Refusal, Reply, Request, Session, Spot, Table};
 
 const ACCOUNTS: Table = Table(0);
 

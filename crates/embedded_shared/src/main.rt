@@ -29,7 +29,7 @@ use std::sync::Wait;
 use std::thread::{self, Threads};
 use std::time::Clock;
 use store_server::StoreServer;
-use teb_names::SESSIONS;
+use teb_rules::names::SESSIONS;
 
 /// A file has fewer bytes than this.
 const MOST_BYTES: u64 = 1 << 40;

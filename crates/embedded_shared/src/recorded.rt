@@ -1,7 +1,7 @@
 //! A server that keeps the printed run of each epoch.
 
 ghost use Rattle.std.specs.Prelude.{◌≡◌, ◌<◌, All, IfOk, OnOk, length, vec_capacity};
-ghost use Rattle.teb_history.specs.Phases.{begun_count};
+ghost use Rattle.teb_rules.specs.history.Phases.{begun_count};
 ghost use Rattle.audit_check.specs.Audit.{IsAudited};
 ghost use Rattle.engine_store.specs.Halves.{AreCommitsSince, KeepsCommits};
 ghost use Rattle.store_server.specs.Ending.{is_to_end};
@@ -14,7 +14,7 @@ use shared_store::{EpochServer, Fault, Obstacle};
 use std::alloc::{AllocError, Global};
 use std::io::{self, Write};
 use store_server::StoreServer;
-use teb_names::{Reply, Request, Session};
+use teb_rules::names::{Reply, Request, Session};
 
 /// A server, and the printed run of each epoch that has ended. `audit` accepts each run.
 #[derive(Drop)]

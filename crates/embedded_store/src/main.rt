@@ -20,7 +20,7 @@ use engine_core::Engine;
 use money::{Transfer, account, ask, move_money};
 use serial_order::{order, tables};
 use std::alloc::Global;
-use teb_names::{Request, Session};
+use teb_rules::names::{Request, Session};
 use tree_toml::{put_fault, read_tree};
 
 const TREE: &[u8] = br#"

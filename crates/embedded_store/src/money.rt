@@ -3,7 +3,7 @@
 use chain_pool::PooledChains;
 use engine_core::Engine;
 use std::alloc::AllocError;
-use teb_names::{Cause, Cell, Kind, Refusal, Reply, Request, Session, Spot, Table};
+use teb_rules::names::{Cause, Cell, Kind, Refusal, Reply, Request, Session, Spot, Table};
 use thiserror::Error;
 
 /// The type of transaction that moves money, by its place in the tree text.

@@ -6,9 +6,9 @@ use Rattle.std.specs.Prelude.{FitsSigned}
 use Rattle.std.specs.Option.{SomeIff}
 use Rattle.engine_core.specs.Decisions.{sum_of}
 use Rattle.std.proofs.Common.{inl, inr}
-use Rattle.teb_names.specs.declared.Cell.{Cell}
-use Rattle.teb_names.specs.declared.Refusal.TheVariants.{NotRead, Overflow}
-use Rattle.teb_history.specs.declared.Event.{Event}
+use Rattle.teb_rules.specs.declared.names.Cell.{Cell}
+use Rattle.teb_rules.specs.declared.names.Refusal.TheVariants.{NotRead, Overflow}
+use Rattle.teb_rules.specs.declared.history.Event.{Event}
 use Rattle.teb_rules.specs.Setup.{Setup}
 use Rattle.teb_rules.specs.Answer.{added, fits, put_value, refuse}
 

@@ -1,12 +1,12 @@
 -- Whether a transaction has already put a cell is known from the place of its Put.
 use Rattle.std.proofs.Common.{Bool, ◌&&◌, not, List, ◌∙◌, ap}
-use Rattle.teb_names.proofs.Bools.{and_true}
-use Rattle.teb_names.specs.declared.Cell.{Cell}
-use Rattle.teb_history.specs.declared.Event.{Event}
-use Rattle.teb_history.specs.declared.Event.TheVariants.{Began, Got, Put, Ready, Done, Gone, Told}
-use Rattle.teb_history.specs.Accesses.{wrote}
+use Rattle.teb_rules.proofs.lemmas.names.Bools.{and_true}
+use Rattle.teb_rules.specs.declared.names.Cell.{Cell}
+use Rattle.teb_rules.specs.declared.history.Event.{Event}
+use Rattle.teb_rules.specs.declared.history.Event.TheVariants.{Began, Got, Put, Ready, Done, Gone, Told}
+use Rattle.teb_rules.specs.history.Accesses.{wrote}
 use Rattle.teb_rules.specs.Setup.{Setup}
-use Rattle.teb_laws.specs.Lawful.{Granted}
+use Rattle.teb_rules.specs.laws.Lawful.{Granted}
 use Rattle.version_chain.specs.Lists.{Version}
 use Rattle.candidate_reads.specs.declared.placing.Place.{Place}
 use Rattle.phase_api.specs.Versions.{HoldsVersions}

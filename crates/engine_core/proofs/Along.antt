@@ -2,20 +2,20 @@
 use Rattle.std.proofs.Common.{◌≡◌, ℕ, zero, suc, ◌<◌, Bool, true, List, [], ◌∷◌, length, get_or, arith, eqb, eq-eqb, refl, subst, ap, ◌∙◌}
 use Rattle.std.specs.List.{All}
 use Rattle.std.proofs.lemmas.Bool.{or_left, or_right}
-use Rattle.teb_names.specs.declared.Cell.{Cell}
-use Rattle.teb_names.specs.declared.Node.{Node}
-use Rattle.teb_names.specs.declared.Spot.{Spot}
-use Rattle.teb_history.specs.declared.Event.{Event}
-use Rattle.teb_history.specs.Phases.{spot_of}
+use Rattle.teb_rules.specs.declared.names.Cell.{Cell}
+use Rattle.teb_rules.specs.declared.names.Node.{Node}
+use Rattle.teb_rules.specs.declared.names.Spot.{Spot}
+use Rattle.teb_rules.specs.declared.history.Event.{Event}
+use Rattle.teb_rules.specs.history.Phases.{spot_of}
 use Rattle.teb_rules.specs.Setup.{Setup, among}
 use Rattle.teb_rules.specs.Tree.{row, path, on_path, on}
 use Rattle.teb_rules.specs.Accepted.{IsSound}
 use Rattle.teb_rules.specs.declared.Stop.{Stop}
 use Rattle.teb_rules.specs.Controls.{on_access, validate}
 use Rattle.teb_rules.specs.Stops.{on_begin, stop_of, access_stop, prepare_stop, begin_stop}
-use Rattle.teb_laws.proofs.Sound.{tree_facts}
-use Rattle.teb_laws.proofs.Within.{path-below}
-use Rattle.cc_tree.specs.Grown.{node_numbers}
+use Rattle.teb_rules.proofs.lemmas.laws.Sound.{tree_facts}
+use Rattle.teb_rules.proofs.lemmas.laws.Within.{path-below}
+use Rattle.store_setup.specs.tree.Grown.{node_numbers}
 use Rattle.phase_api.specs.declared.facts.Facts.{Facts}
 use Rattle.phase_api.specs.FactsView.{setup_of, events_of, IsTyped}
 use Rattle.phase_api.specs.Calls.{IsHere}

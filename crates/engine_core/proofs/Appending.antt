@@ -1,14 +1,14 @@
 -- What the engine keeps of the history, before and after one more event.
 use Rattle.std.proofs.Common.{◌≡◌, ℕ, zero, suc, ◌≤◌, ◌<◌, refl, List, [], ◌∷◌, length, Option, ℤ, sym, subst, arith}
-use Rattle.teb_names.specs.declared.TheConstants.{MOST_TXNS}
-use Rattle.teb_names.specs.declared.Cell.{Cell}
-use Rattle.teb_names.specs.declared.Txn.{Txn}
-use Rattle.teb_history.specs.declared.Event.{Event}
-use Rattle.teb_history.specs.declared.Event.TheVariants.{Began, Got, Put, Ready, Done, Gone, Told}
-use Rattle.teb_history.specs.Phases.{begun_count}
+use Rattle.teb_rules.specs.declared.names.TheConstants.{MOST_TXNS}
+use Rattle.teb_rules.specs.declared.names.Cell.{Cell}
+use Rattle.teb_rules.specs.declared.names.Txn.{Txn}
+use Rattle.teb_rules.specs.declared.history.Event.{Event}
+use Rattle.teb_rules.specs.declared.history.Event.TheVariants.{Began, Got, Put, Ready, Done, Gone, Told}
+use Rattle.teb_rules.specs.history.Phases.{begun_count}
 use Rattle.teb_rules.specs.Setup.{Setup, Store}
-use Rattle.teb_laws.specs.Lawful.{Granted, Lawful}
-use Rattle.teb_laws.proofs.Answers.{lawful_cons}
+use Rattle.teb_rules.specs.laws.Lawful.{Granted, Lawful}
+use Rattle.teb_rules.proofs.lemmas.laws.Answers.{lawful_cons}
 use Rattle.version_chain.specs.Lists.{Version, writers_of}
 use Rattle.phase_api.specs.Standing.{StandAll}
 use Rattle.phase_api.specs.Versions.{HoldsVersions}

@@ -1,9 +1,9 @@
 -- A Begin is never told to break.
 use Rattle.std.proofs.Common.{◌≡◌, ℕ, Bool, true, false, cond, List, [], ◌∷◌, Option, Some, None, refl}
-use Rattle.teb_names.specs.declared.Node.{Node}
-use Rattle.teb_names.specs.declared.Spot.{Spot}
-use Rattle.teb_names.specs.declared.Txn.{Txn}
-use Rattle.teb_history.specs.declared.Event.{Event}
+use Rattle.teb_rules.specs.declared.names.Node.{Node}
+use Rattle.teb_rules.specs.declared.names.Spot.{Spot}
+use Rattle.teb_rules.specs.declared.names.Txn.{Txn}
+use Rattle.teb_rules.specs.declared.history.Event.{Event}
 use Rattle.teb_rules.specs.Setup.{Setup}
 use Rattle.teb_rules.specs.Tree.{path}
 use Rattle.teb_rules.specs.declared.Stop.TheVariants as stop

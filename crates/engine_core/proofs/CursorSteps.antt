@@ -1,22 +1,22 @@
 -- The cursors after the newest event of a lawful history.
 use Rattle.std.proofs.Common.{◌≡◌, ℕ, suc, ◌<◌, ◌≤◌, true, false, List, [], ◌∷◌, ◌++◌, length, drop, Option, ℤ, refl, sym, ap, ◌∙◌, subst, arith, eqb, eqb-true, inl, inr, ◌⊎◌}
 use Rattle.std.proofs.lemmas.Bool.{cases_Bool, both_ways, or_parts}
-use Rattle.teb_names.specs.declared.Cell.{Cell}
-use Rattle.teb_names.specs.declared.Txn.{Txn}
-use Rattle.teb_names.specs.declared.Kind.{Kind}
-use Rattle.teb_names.specs.declared.Session.{Session}
-use Rattle.teb_history.specs.declared.Event.{Event}
-use Rattle.teb_history.specs.declared.Event.TheVariants.{Began, Got, Put, Ready, Done, Gone, Told}
-use Rattle.teb_history.specs.Phases.{begun, begun_count, kind_of, spot_of, unfinished}
+use Rattle.teb_rules.specs.declared.names.Cell.{Cell}
+use Rattle.teb_rules.specs.declared.names.Txn.{Txn}
+use Rattle.teb_rules.specs.declared.names.Kind.{Kind}
+use Rattle.teb_rules.specs.declared.names.Session.{Session}
+use Rattle.teb_rules.specs.declared.history.Event.{Event}
+use Rattle.teb_rules.specs.declared.history.Event.TheVariants.{Began, Got, Put, Ready, Done, Gone, Told}
+use Rattle.teb_rules.specs.history.Phases.{begun, begun_count, kind_of, spot_of, unfinished}
 use Rattle.teb_rules.specs.Setup.{Setup, profile}
 use Rattle.teb_rules.specs.Steps.{cursor}
-use Rattle.teb_laws.specs.Lawful.{Lawful}
+use Rattle.teb_rules.specs.laws.Lawful.{Lawful}
 use Rattle.phase_api.specs.declared.facts.Facts.{Facts}
 use Rattle.phase_api.specs.FactsView.{setup_of, events_of, IsTyped}
 use Rattle.cursor_book.specs.Cursors.{CursorsOf, moved}
 use Rattle.cursor_book.proofs.Moves.{length-cursors, cursors_began, cursors_got, cursors_put, cursors_ready, cursors_done, cursors_gone, cursors_told}
-use Rattle.teb_laws.proofs.Timeline.{begun_counted}
-use Rattle.teb_history.proofs.Newest.{begun-cons}
+use Rattle.teb_rules.proofs.lemmas.laws.Timeline.{begun_counted}
+use Rattle.teb_rules.proofs.lemmas.history.Newest.{begun-cons}
 use Rattle.candidate_reads.proofs.Sources.{begun_place}
 use Rattle.engine_core.proofs.Running.{unfinished_numbered, unfinished_typed, begun_unfinished}
 

@@ -1,24 +1,24 @@
 -- How the answer rule treats a refusal, a stop and a grant.
 use Rattle.std.proofs.Common.{◌≡◌, ◌&&◌, ℕ, suc, ◌<◌, ◌≤◌, true, false, cond, ltb, leb, List, ◌∷◌, Option, Some, None, refl, sym, ◌∙◌, ap, subst}
-use Rattle.teb_names.specs.declared.TheConstants.{MOST_TXNS, SESSIONS}
-use Rattle.teb_names.specs.declared.Cell.{Cell}
+use Rattle.teb_rules.specs.declared.names.TheConstants.{MOST_TXNS, SESSIONS}
+use Rattle.teb_rules.specs.declared.names.Cell.{Cell}
 use Rattle.std.proofs.lemmas.Bool.{le-leb, lt-leb}
-use Rattle.teb_names.specs.declared.Node.{Node}
-use Rattle.teb_names.specs.declared.Txn.{Txn}
-use Rattle.teb_names.specs.declared.Session.{Session}
-use Rattle.teb_names.specs.declared.Spot.{Spot}
-use Rattle.teb_names.specs.declared.Refusal.{Refusal}
-use Rattle.teb_names.specs.declared.Refusal.TheVariants.{UnknownType, Full, NoTxn, Range, BadSession}
-use Rattle.teb_names.specs.declared.Request.{Request}
-use Rattle.teb_names.specs.declared.Request.TheVariants.{Begin}
-use Rattle.teb_names.specs.declared.Reply.TheVariants.{Again, Begun}
-use Rattle.teb_history.specs.declared.Event.TheVariants.{Began}
-use Rattle.teb_history.specs.Phases.{begun_count, held, aborted}
-use Rattle.teb_history.specs.Written.{held_txn, txn_of}
+use Rattle.teb_rules.specs.declared.names.Node.{Node}
+use Rattle.teb_rules.specs.declared.names.Txn.{Txn}
+use Rattle.teb_rules.specs.declared.names.Session.{Session}
+use Rattle.teb_rules.specs.declared.names.Spot.{Spot}
+use Rattle.teb_rules.specs.declared.names.Refusal.{Refusal}
+use Rattle.teb_rules.specs.declared.names.Refusal.TheVariants.{UnknownType, Full, NoTxn, Range, BadSession}
+use Rattle.teb_rules.specs.declared.names.Request.{Request}
+use Rattle.teb_rules.specs.declared.names.Request.TheVariants.{Begin}
+use Rattle.teb_rules.specs.declared.names.Reply.TheVariants.{Again, Begun}
+use Rattle.teb_rules.specs.declared.history.Event.TheVariants.{Began}
+use Rattle.teb_rules.specs.history.Phases.{begun_count, held, aborted}
+use Rattle.teb_rules.specs.history.Written.{held_txn, txn_of}
 use Rattle.teb_rules.specs.Cascade.{txn}
 use Rattle.teb_rules.specs.Setup.{Setup}
 use Rattle.teb_rules.specs.Stops.{begin_stop}
-use Rattle.teb_history.specs.declared.Event.{Event}
+use Rattle.teb_rules.specs.declared.history.Event.{Event}
 use Rattle.teb_rules.specs.Setup.{Store}
 use Rattle.teb_rules.specs.declared.Stop.{Stop}
 use Rattle.teb_rules.specs.declared.Stop.TheVariants as stop

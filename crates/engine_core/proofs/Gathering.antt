@@ -1,9 +1,9 @@
 -- The cells of a scan, read one at a time.
 use Rattle.std.proofs.Common.{◌≡◌, ℕ, suc, ◌+◌, ◌-◌, ◌<◌, ◌≤◌, false, List, [], ◌∷◌, ◌++◌, length, Option, ℤ, refl, sym, ◌∙◌, ap, ap₂, subst, arith, append_assoc, append-nil, length-append}
-use Rattle.teb_names.specs.declared.Cell.{Cell}
-use Rattle.teb_names.specs.declared.Txn.{Txn}
-use Rattle.teb_history.specs.declared.Event.{Event}
-use Rattle.teb_history.specs.declared.Event.TheVariants.{Got}
+use Rattle.teb_rules.specs.declared.names.Cell.{Cell}
+use Rattle.teb_rules.specs.declared.names.Txn.{Txn}
+use Rattle.teb_rules.specs.declared.history.Event.{Event}
+use Rattle.teb_rules.specs.declared.history.Event.TheVariants.{Got}
 use Rattle.teb_rules.specs.Setup.{Setup, Store}
 use Rattle.teb_rules.specs.declared.Stop.{Stop}
 use Rattle.teb_rules.specs.declared.Stop.TheVariants as stop
@@ -11,7 +11,7 @@ use Rattle.teb_rules.specs.Stops.{access_stop, scan_stop, or_stop_of}
 use Rattle.teb_rules.specs.Cascade.{txn}
 use Rattle.teb_rules.specs.Versions.{read}
 use Rattle.teb_rules.specs.Answer.{cells_from, read_all}
-use Rattle.teb_laws.specs.Lawful.{Granted, Lawful, MayAccess}
+use Rattle.teb_rules.specs.laws.Lawful.{Granted, Lawful, MayAccess}
 use Rattle.engine_core.specs.declared.engine_state.EngineState.{EngineState}
 use Rattle.store_setup.specs.Stores.{store_of}
 use Rattle.engine_core.specs.Cells.{cell_at}

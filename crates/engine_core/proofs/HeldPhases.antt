@@ -1,14 +1,14 @@
 -- What the phase of a transaction says about it.
 use Rattle.std.proofs.Common.{◌≡◌, ℕ, Bool, true, false, cond, not, ◌&&◌, List, refl, inl, inr}
 use Rattle.std.proofs.lemmas.Bool.{or_cases}
-use Rattle.teb_history.specs.declared.Event.{Event}
-use Rattle.teb_history.specs.declared.Phase.{Phase}
-use Rattle.teb_history.specs.declared.Phase.TheVariants as phase
-use Rattle.teb_history.specs.Positions.{came}
-use Rattle.teb_history.specs.Phases.{begun, committed, aborted, ready_at, unfinished, untold, prepared}
-use Rattle.teb_history.specs.Written.{phase_of}
-use Rattle.teb_history.specs.Live.{is_live}
-use Rattle.teb_laws.proofs.Reachable.{untold_gone}
+use Rattle.teb_rules.specs.declared.history.Event.{Event}
+use Rattle.teb_rules.specs.declared.history.Phase.{Phase}
+use Rattle.teb_rules.specs.declared.history.Phase.TheVariants as phase
+use Rattle.teb_rules.specs.history.Positions.{came}
+use Rattle.teb_rules.specs.history.Phases.{begun, committed, aborted, ready_at, unfinished, untold, prepared}
+use Rattle.teb_rules.specs.history.Written.{phase_of}
+use Rattle.teb_rules.specs.history.Live.{is_live}
+use Rattle.teb_rules.proofs.lemmas.laws.Reachable.{untold_gone}
 
 abbrev phase_by : Bool → Bool → Bool → Bool → Phase
 phase_by d g b r = cond d phase.Committed (cond g phase.Aborted (cond (not b) phase.NotBegun (cond r phase.Ready phase.Running)))

@@ -1,19 +1,19 @@
 -- A session holds the transaction that it began last, or none.
 use Rattle.std.proofs.Common.{◌≡◌, ℕ, suc, ◌<◌, ◌≤◌, List, [], ◌∷◌, Bool, true, false, cond, eqb, Option, Some, None, eq-eqb, eqb-true, ne_eqb, refl, sym, ◌∙◌, ap, subst, inl, inr, arith}
 use Rattle.std.proofs.lemmas.Bool.{both_ways, cases_eq, and_parts, and_from, or_left}
-use Rattle.teb_names.specs.declared.Txn.{Txn}
-use Rattle.teb_names.specs.declared.Session.{Session}
-use Rattle.teb_names.specs.declared.Kind.{Kind}
-use Rattle.teb_names.specs.declared.Cause.{Cause}
-use Rattle.teb_history.specs.declared.Event.{Event}
-use Rattle.teb_history.specs.declared.Event.TheVariants.{Began, Got, Put, Ready, Done, Gone, Told}
-use Rattle.teb_history.specs.Phases.{begun_count, held, session_of, unfinished, untold}
-use Rattle.teb_history.specs.Live.{is_live}
-use Rattle.teb_history.specs.Written.{held_txn, txn_of}
+use Rattle.teb_rules.specs.declared.names.Txn.{Txn}
+use Rattle.teb_rules.specs.declared.names.Session.{Session}
+use Rattle.teb_rules.specs.declared.names.Kind.{Kind}
+use Rattle.teb_rules.specs.declared.names.Cause.{Cause}
+use Rattle.teb_rules.specs.declared.history.Event.{Event}
+use Rattle.teb_rules.specs.declared.history.Event.TheVariants.{Began, Got, Put, Ready, Done, Gone, Told}
+use Rattle.teb_rules.specs.history.Phases.{begun_count, held, session_of, unfinished, untold}
+use Rattle.teb_rules.specs.history.Live.{is_live}
+use Rattle.teb_rules.specs.history.Written.{held_txn, txn_of}
 use Rattle.teb_rules.specs.Setup.{Setup}
-use Rattle.teb_laws.specs.Lawful.{Lawful}
-use Rattle.teb_laws.proofs.Holding.{Holds, held_holds, none_holds, held_began, holds_inert, holds_began, holds_done, holds_done_self, holds_gone, holds_told, holds_told_self}
-use Rattle.teb_laws.proofs.Timeline.{begun_counted}
+use Rattle.teb_rules.specs.laws.Lawful.{Lawful}
+use Rattle.teb_rules.proofs.lemmas.laws.Holding.{Holds, held_holds, none_holds, held_began, holds_inert, holds_began, holds_done, holds_done_self, holds_gone, holds_told, holds_told_self}
+use Rattle.teb_rules.proofs.lemmas.laws.Timeline.{begun_counted}
 use Rattle.engine_core.specs.Latest.{latest_txn}
 
 -- the session's latest transaction is one of those that have begun

@@ -1,24 +1,24 @@
 -- Only a scan is answered with a scan's values.
 use Rattle.std.proofs.Common.{◌≡◌, ℕ, Bool, true, false, cond, ◌&&◌, leb, not, ltb, List, ◌∷◌, Option, Some, None, is_none, ℤ, subst}
 use Rattle.std.specs.Prelude.{◌+ℤ◌}
-use Rattle.teb_names.specs.declared.TheConstants.{MOST_TXNS, SESSIONS}
-use Rattle.teb_names.specs.declared.Cell.{Cell}
-use Rattle.teb_names.specs.declared.Reply.{Reply}
-use Rattle.teb_names.specs.declared.Reply.TheVariants.{Refused}
-use Rattle.teb_names.specs.declared.Reply.TheVariants as reply
-use Rattle.teb_names.specs.declared.Refusal.{Refusal}
-use Rattle.teb_names.specs.declared.Refusal.TheVariants.{BadSession, InTxn, UnknownType, Full, NoTxn, UnknownTable, Prepared, NotInProfile, Overflow}
-use Rattle.teb_names.specs.declared.Request.{Request}
-use Rattle.teb_names.specs.declared.Request.TheVariants.{Begin, Read, Write, Add, Delete, Scan, Commit, Abort, End}
-use Rattle.teb_names.specs.declared.Request.TheVariants as request
-use Rattle.teb_names.specs.declared.Session.{Session}
-use Rattle.teb_names.specs.declared.Spot.{Spot}
-use Rattle.teb_history.specs.declared.Event.{Event}
-use Rattle.teb_history.specs.declared.Event.TheVariants.{Ready, Done}
+use Rattle.teb_rules.specs.declared.names.TheConstants.{MOST_TXNS, SESSIONS}
+use Rattle.teb_rules.specs.declared.names.Cell.{Cell}
+use Rattle.teb_rules.specs.declared.names.Reply.{Reply}
+use Rattle.teb_rules.specs.declared.names.Reply.TheVariants.{Refused}
+use Rattle.teb_rules.specs.declared.names.Reply.TheVariants as reply
+use Rattle.teb_rules.specs.declared.names.Refusal.{Refusal}
+use Rattle.teb_rules.specs.declared.names.Refusal.TheVariants.{BadSession, InTxn, UnknownType, Full, NoTxn, UnknownTable, Prepared, NotInProfile, Overflow}
+use Rattle.teb_rules.specs.declared.names.Request.{Request}
+use Rattle.teb_rules.specs.declared.names.Request.TheVariants.{Begin, Read, Write, Add, Delete, Scan, Commit, Abort, End}
+use Rattle.teb_rules.specs.declared.names.Request.TheVariants as request
+use Rattle.teb_rules.specs.declared.names.Session.{Session}
+use Rattle.teb_rules.specs.declared.names.Spot.{Spot}
+use Rattle.teb_rules.specs.declared.history.Event.{Event}
+use Rattle.teb_rules.specs.declared.history.Event.TheVariants.{Ready, Done}
 use Rattle.teb_rules.specs.Cascade.{txn}
 use Rattle.teb_rules.specs.Versions.{read}
-use Rattle.teb_history.specs.Phases.{begun_count, held, aborted, prepared, kind_of}
-use Rattle.teb_history.specs.Accesses.{last_put, last_got}
+use Rattle.teb_rules.specs.history.Phases.{begun_count, held, aborted, prepared, kind_of}
+use Rattle.teb_rules.specs.history.Accesses.{last_put, last_got}
 use Rattle.teb_rules.specs.Setup.{Setup, Store, profile}
 use Rattle.teb_rules.specs.Steps.{least_step, cursor}
 use Rattle.teb_rules.specs.Stops.{access_stop, prepare_stop, commit_stop, begin_stop}

@@ -3,9 +3,9 @@ use Rattle.std.proofs.Common.{◌≡◌, ◌≢◌, ◌⊎◌, inl, inr, ℕ, ze
 use Rattle.std.proofs.lemmas.List.{length-set}
 use Rattle.std.proofs.lemmas.Option.{slice_get-get_or, slice_get_within}
 use Rattle.std.proofs.lemmas.Bool.{or_cases, cases_lt}
-use Rattle.teb_names.specs.declared.Spot.{Spot}
-use Rattle.teb_history.specs.declared.Event.{Event}
-use Rattle.teb_history.specs.declared.Event.TheVariants.{Began, Got, Put, Ready, Done, Gone, Told}
+use Rattle.teb_rules.specs.declared.names.Spot.{Spot}
+use Rattle.teb_rules.specs.declared.history.Event.{Event}
+use Rattle.teb_rules.specs.declared.history.Event.TheVariants.{Began, Got, Put, Ready, Done, Gone, Told}
 use Rattle.teb_rules.specs.Setup.{Setup, among}
 use Rattle.teb_rules.specs.Tree.{path, on_path}
 use Rattle.teb_rules.specs.declared.Stop.{Stop}
@@ -13,7 +13,7 @@ use Rattle.teb_rules.specs.declared.Stop.TheVariants as stop
 use Rattle.teb_rules.specs.declared.Verdict.{Verdict}
 use Rattle.teb_rules.specs.declared.Verdict.TheVariants.{Go, Wait, Break}
 use Rattle.teb_rules.specs.Stops.{on_begin, begin_stop, stop_of, stop_with}
-use Rattle.teb_laws.specs.Lawful.{Granted}
+use Rattle.teb_rules.specs.laws.Lawful.{Granted}
 use Rattle.phase_api.specs.declared.facts.Facts.{Facts}
 use Rattle.phase_api.specs.FactsView.{setup_of, events_of}
 use Rattle.phase_api.specs.Calls.{MayNote, IsNewest}

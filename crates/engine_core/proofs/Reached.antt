@@ -1,17 +1,17 @@
 -- Histories that requests lead to, and laws that hold for them.
 use Rattle.std.proofs.Common.{◌≡◌, Bool, true, false, List, [], ◌∷◌, ◌++◌, refl, sym, ◌∙◌, ap, subst}
-use Rattle.teb_names.specs.declared.Session.{Session}
-use Rattle.teb_names.specs.declared.Request.{Request}
-use Rattle.teb_history.specs.declared.Event.{Event}
+use Rattle.teb_rules.specs.declared.names.Session.{Session}
+use Rattle.teb_rules.specs.declared.names.Request.{Request}
+use Rattle.teb_rules.specs.declared.history.Event.{Event}
 use Rattle.teb_rules.specs.Accepted.{IsSound}
 use Rattle.teb_rules.specs.Answer.{answer}
 use Rattle.teb_rules.specs.Run.{history_after}
 use Rattle.teb_rules.specs.Setup.{Store}
-use Rattle.teb_laws.specs.Laws.{OfEveryStore}
-use Rattle.teb_laws.specs.Lawful.{Settled}
-use Rattle.teb_laws.proofs.Reachable.{run_good, empty_good}
-use Rattle.teb_laws.proofs.Runs.{history_after-append}
-use Rattle.teb_laws.proofs.Sound.{tree_facts}
+use Rattle.teb_rules.specs.laws.Laws.{OfEveryStore}
+use Rattle.teb_rules.specs.laws.Lawful.{Settled}
+use Rattle.teb_rules.proofs.lemmas.laws.Reachable.{run_good, empty_good}
+use Rattle.teb_rules.proofs.lemmas.laws.Runs.{history_after-append}
+use Rattle.teb_rules.proofs.lemmas.laws.Sound.{tree_facts}
 use Rattle.store_setup.specs.declared.Setup as kept
 use Rattle.store_setup.specs.SetupView.{setup_view}
 use Rattle.store_setup.specs.Sound.{IsWhole}

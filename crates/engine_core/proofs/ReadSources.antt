@@ -2,20 +2,20 @@
 use Rattle.std.proofs.Common.{ℕ, ◌≡◌, true, false, not, ◌&&◌, eqb, List, [], ◌∷◌, sym, subst, ◌∙◌, ◌⊎◌, inl, inr, eqb-true, filter}
 use Rattle.std.proofs.lemmas.Bool.{cases_Bool, and_parts, and_from, or_cases, or_left, or_right, not_from_false}
 use Rattle.std.specs.List.{list_any}
-use Rattle.teb_names.specs.declared.Cell.{Cell}
-use Rattle.teb_names.specs.declared.Txn.{Txn}
-use Rattle.teb_names.specs.Cells.{same_cell}
-use Rattle.teb_history.specs.declared.Event.{Event}
-use Rattle.teb_history.specs.declared.Event.TheVariants.{Began, Got, Put, Ready, Done, Gone, Told}
-use Rattle.teb_history.specs.Phases.{aborted, txns}
-use Rattle.teb_history.specs.Accesses.{is_put, put_at, wrote, is_from, read_from}
-use Rattle.teb_history.proofs.Any.{came_any}
+use Rattle.teb_rules.specs.declared.names.Cell.{Cell}
+use Rattle.teb_rules.specs.declared.names.Txn.{Txn}
+use Rattle.teb_rules.specs.names.Cells.{same_cell}
+use Rattle.teb_rules.specs.declared.history.Event.{Event}
+use Rattle.teb_rules.specs.declared.history.Event.TheVariants.{Began, Got, Put, Ready, Done, Gone, Told}
+use Rattle.teb_rules.specs.history.Phases.{aborted, txns}
+use Rattle.teb_rules.specs.history.Accesses.{is_put, put_at, wrote, is_from, read_from}
+use Rattle.teb_rules.proofs.lemmas.history.Any.{came_any}
 use Rattle.teb_rules.specs.Setup.{Setup}
 use Rattle.teb_rules.specs.Versions.{sees}
-use Rattle.teb_laws.specs.Lawful.{Granted, Lawful, Settled}
-use Rattle.teb_laws.proofs.ReadRule.{from_own, from_seen, from_row, read_case, latest-some, sees_parts}
-use Rattle.teb_laws.proofs.Serial.{filter-In}
-use Rattle.teb_names.proofs.SameCells.{same_cell-true}
+use Rattle.teb_rules.specs.laws.Lawful.{Granted, Lawful, Settled}
+use Rattle.teb_rules.proofs.lemmas.laws.ReadRule.{from_own, from_seen, from_row, read_case, latest-some, sees_parts}
+use Rattle.teb_rules.proofs.lemmas.laws.Serial.{filter-In}
+use Rattle.teb_rules.proofs.lemmas.names.SameCells.{same_cell-true}
 use Rattle.phase_api.specs.Versions.{reads_from, SourcesStand}
 
 wrote_after : (e : Event) (P : List Event) (w : ℕ) (x : Cell) → wrote P w x ≡ true → wrote (e ∷ P) w x ≡ true

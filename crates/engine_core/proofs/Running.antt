@@ -1,11 +1,11 @@
 -- Unfinished transactions of a lawful history.
 use Rattle.std.proofs.Common.{◌≡◌, ℕ, ◌<◌, ◌≤◌, true, List, IsFalse}
 use Rattle.std.proofs.lemmas.Bool.{and_parts, not-true}
-use Rattle.teb_history.specs.declared.Event.{Event}
-use Rattle.teb_history.specs.Phases.{begun, unfinished, aborted, begun_count, kind_of}
+use Rattle.teb_rules.specs.declared.history.Event.{Event}
+use Rattle.teb_rules.specs.history.Phases.{begun, unfinished, aborted, begun_count, kind_of}
 use Rattle.teb_rules.specs.Setup.{Setup}
-use Rattle.teb_laws.specs.Lawful.{Lawful}
-use Rattle.teb_laws.proofs.Timeline.{begun_counted, kind-lt}
+use Rattle.teb_rules.specs.laws.Lawful.{Lawful}
+use Rattle.teb_rules.proofs.lemmas.laws.Timeline.{begun_counted, kind-lt}
 use Rattle.candidate_reads.proofs.Sources.{begun_place}
 
 pub begun_unfinished : (H : List Event) (t : ℕ) → unfinished H t ≡ true → begun H t ≡ true

@@ -1,14 +1,14 @@
 -- A setup that a store can have, and the kept state for an empty history.
 use Rattle.std.proofs.Common.{◌≡◌, ℕ, ◌≤◌, List, [], length, sym, ◌∙◌, subst, arith}
-use Rattle.teb_names.specs.declared.TheConstants.{MOST_TXNS}
-use Rattle.teb_names.specs.declared.Cell.{Cell}
-use Rattle.teb_names.specs.declared.Txn.{Txn}
-use Rattle.teb_history.specs.declared.Event.{Event}
-use Rattle.teb_history.specs.Phases.{begun_count}
+use Rattle.teb_rules.specs.declared.names.TheConstants.{MOST_TXNS}
+use Rattle.teb_rules.specs.declared.names.Cell.{Cell}
+use Rattle.teb_rules.specs.declared.names.Txn.{Txn}
+use Rattle.teb_rules.specs.declared.history.Event.{Event}
+use Rattle.teb_rules.specs.history.Phases.{begun_count}
 use Rattle.teb_rules.specs.Setup.{Setup as Rules, above_profiles}
 use Rattle.teb_rules.specs.Accepted.{IsSound}
-use Rattle.teb_laws.specs.Lawful.{Lawful}
-use Rattle.teb_laws.proofs.Reachable.{empty_good}
+use Rattle.teb_rules.specs.laws.Lawful.{Lawful}
+use Rattle.teb_rules.proofs.lemmas.laws.Reachable.{empty_good}
 use Rattle.version_chain.specs.Lists.{Version}
 use Rattle.phase_api.specs.Standing.{StandAll}
 use Rattle.candidate_reads.proofs.KeptVersions.{versions_none}

@@ -1,6 +1,6 @@
 -- The control of a node, of any kind.
 use Rattle.std.specs.Prelude.{ℕ, List}
-use Rattle.teb_history.specs.declared.Event.{Event}
+use Rattle.teb_rules.specs.declared.history.Event.{Event}
 use Rattle.teb_rules.specs.Setup.{Setup}
 use Rattle.phase_api.specs.FactsView.{IsOrderly}
 use Rattle.nexus_locks.specs.Controls.{LocksStandFor, locks_node_number, locks_spare}

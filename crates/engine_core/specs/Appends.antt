@@ -1,9 +1,9 @@
 -- What has to hold for an event to be appended, and to be noted in the cursors.
 use Rattle.std.specs.Prelude.{◌≡◌, ◌<◌, ◌≤◌, ℕ, List, ◌∷◌, length, drop}
-use Rattle.teb_names.specs.declared.Cell.{Cell}
-use Rattle.teb_history.specs.declared.Event.{Event}
+use Rattle.teb_rules.specs.declared.names.Cell.{Cell}
+use Rattle.teb_rules.specs.declared.history.Event.{Event}
 use Rattle.teb_rules.specs.Setup.{Setup}
-use Rattle.teb_laws.specs.Lawful.{Granted, Lawful}
+use Rattle.teb_rules.specs.laws.Lawful.{Granted, Lawful}
 use Rattle.version_chain.specs.Lists.{Version}
 use Rattle.candidate_reads.specs.declared.placing.Place.{Place}
 use Rattle.phase_api.specs.declared.facts.Facts.{Facts}

@@ -1,8 +1,8 @@
 -- A transaction that asks to access a cell.
 use Rattle.std.specs.Prelude.{ℕ, List, IsTrue, IsFalse}
-use Rattle.teb_names.specs.declared.Cell.{Cell}
-use Rattle.teb_history.specs.declared.Event.{Event}
-use Rattle.teb_history.specs.Phases.{unfinished, prepared}
+use Rattle.teb_rules.specs.declared.names.Cell.{Cell}
+use Rattle.teb_rules.specs.declared.history.Event.{Event}
+use Rattle.teb_rules.specs.history.Phases.{unfinished, prepared}
 use Rattle.teb_rules.specs.Setup.{Setup}
 use Rattle.phase_api.specs.Calls.{HasStep}
 

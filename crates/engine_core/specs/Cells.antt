@@ -1,6 +1,6 @@
 -- The cells of a scan.
 use Rattle.std.specs.Prelude.{ℕ, ◌+◌, ◌^◌, ◌≤◌}
-use Rattle.teb_names.specs.declared.Cell.{Cell}
+use Rattle.teb_rules.specs.declared.names.Cell.{Cell}
 
 -- the cell whose key is i greater than that of x
 abbrev pub cell_at : Cell → ℕ → Cell

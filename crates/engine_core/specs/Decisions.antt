@@ -1,14 +1,14 @@
 -- A decision, and the answer that it carries out.
 use Rattle.std.specs.Prelude.{◌≡◌, ◌<◌, ℕ, List, ◌∷◌, Option, Some, None, unwrap_or, cond, ℤ, ◌+ℤ◌}
-use Rattle.teb_names.specs.declared.TheConstants.{MOST_TXNS}
-use Rattle.teb_names.specs.declared.Cause.TheVariants.{Asked}
-use Rattle.teb_names.specs.declared.Reply.TheVariants as reply
-use Rattle.teb_names.specs.declared.Cell.{Cell}
-use Rattle.teb_names.specs.declared.Refusal.{Refusal}
-use Rattle.teb_history.specs.declared.Event.{Event}
-use Rattle.teb_history.specs.declared.Event.TheVariants.{Began, Told}
-use Rattle.teb_history.specs.declared.Event.TheVariants as event
-use Rattle.teb_history.specs.Phases.{begun_count, cause_of}
+use Rattle.teb_rules.specs.declared.names.TheConstants.{MOST_TXNS}
+use Rattle.teb_rules.specs.declared.names.Cause.TheVariants.{Asked}
+use Rattle.teb_rules.specs.declared.names.Reply.TheVariants as reply
+use Rattle.teb_rules.specs.declared.names.Cell.{Cell}
+use Rattle.teb_rules.specs.declared.names.Refusal.{Refusal}
+use Rattle.teb_rules.specs.declared.history.Event.{Event}
+use Rattle.teb_rules.specs.declared.history.Event.TheVariants.{Began, Told}
+use Rattle.teb_rules.specs.declared.history.Event.TheVariants as event
+use Rattle.teb_rules.specs.history.Phases.{begun_count, cause_of}
 use Rattle.teb_rules.specs.Setup.{Setup, Store}
 use Rattle.teb_rules.specs.Stops.{begin_stop}
 use Rattle.teb_rules.specs.declared.Stop.{Stop}

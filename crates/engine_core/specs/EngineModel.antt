@@ -1,12 +1,12 @@
 -- What contracts see of an engine, and what holds of each.
 use Rattle.std.specs.Prelude.{◌≡◌, ◌≤◌, Bool, true, List}
-use Rattle.teb_names.specs.declared.Session.{Session}
-use Rattle.teb_names.specs.declared.Request.{Request}
-use Rattle.teb_names.specs.declared.naming.NameBook.{NameBook}
-use Rattle.teb_history.specs.declared.Event.{Event}
+use Rattle.teb_rules.specs.declared.names.Session.{Session}
+use Rattle.teb_rules.specs.declared.names.Request.{Request}
+use Rattle.teb_rules.specs.declared.names.naming.NameBook.{NameBook}
+use Rattle.teb_rules.specs.declared.history.Event.{Event}
 use Rattle.teb_rules.specs.Setup.{Store}
 use Rattle.teb_rules.specs.Accepted.{IsSound}
-use Rattle.teb_laws.specs.Laws.{reached}
+use Rattle.teb_rules.specs.laws.Laws.{reached}
 use Rattle.store_setup.specs.SetupView.{setup_view}
 use Rattle.store_setup.specs.Sound as SetUp
 use Rattle.engine_core.specs.declared.room.TheConstants.{MOST_EVENTS}

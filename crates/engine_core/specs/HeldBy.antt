@@ -1,9 +1,9 @@
 -- What a session holds.
 use Rattle.std.specs.Prelude.{◌≡◌, List, Some, None, IsTrue}
-use Rattle.teb_names.specs.declared.Session.{Session}
-use Rattle.teb_history.specs.declared.Event.{Event}
-use Rattle.teb_history.specs.Phases.{aborted, prepared, unfinished}
-use Rattle.teb_history.specs.Written.{held_txn}
+use Rattle.teb_rules.specs.declared.names.Session.{Session}
+use Rattle.teb_rules.specs.declared.history.Event.{Event}
+use Rattle.teb_rules.specs.history.Phases.{aborted, prepared, unfinished}
+use Rattle.teb_rules.specs.history.Written.{held_txn}
 use Rattle.engine_core.specs.declared.holding.Holding.{Holding}
 use Rattle.engine_core.specs.declared.holding.Holding.TheVariants.{Nothing, Fallen, Running}
 

@@ -1,8 +1,8 @@
 -- What versions need to follow the history.
 use Rattle.std.specs.Prelude.{◌≡◌, ◌≤◌, ℕ, List, length, slice_get, Some, IsTrue}
-use Rattle.teb_names.specs.declared.Cell.{Cell}
-use Rattle.teb_history.specs.declared.Event.{Event}
-use Rattle.teb_history.specs.declared.Event.TheVariants.{Put}
+use Rattle.teb_rules.specs.declared.names.Cell.{Cell}
+use Rattle.teb_rules.specs.declared.history.Event.{Event}
+use Rattle.teb_rules.specs.declared.history.Event.TheVariants.{Put}
 use Rattle.teb_rules.specs.Setup.{Setup}
 use Rattle.version_chain.specs.Lists.{Version, writers_of, is_writer}
 use Rattle.phase_api.specs.Versions.{IsPlaceOf}

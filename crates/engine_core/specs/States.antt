@@ -1,8 +1,8 @@
 -- What holds of what an engine keeps.
 use Rattle.std.specs.Prelude.{◌≤◌, List, length}
-use Rattle.teb_names.specs.declared.Cell.{Cell}
+use Rattle.teb_rules.specs.declared.names.Cell.{Cell}
 use Rattle.teb_rules.specs.Setup.{Store}
-use Rattle.teb_laws.specs.Lawful.{Settled}
+use Rattle.teb_rules.specs.laws.Lawful.{Settled}
 use Rattle.version_chain.specs.Lists.{Version}
 use Rattle.phase_api.specs.declared.facts.Facts.{Facts}
 use Rattle.phase_api.specs.FactsView.{setup_of, events_of}

@@ -1,8 +1,8 @@
 -- The place that the nodes of a path are told.
 use Rattle.std.specs.Prelude.{ℕ, List, Option, Some, None, IsTrue}
-use Rattle.teb_names.specs.declared.Cell.{Cell}
-use Rattle.teb_history.specs.declared.Event.{Event}
-use Rattle.teb_history.specs.Phases.{spot_of}
+use Rattle.teb_rules.specs.declared.names.Cell.{Cell}
+use Rattle.teb_rules.specs.declared.history.Event.{Event}
+use Rattle.teb_rules.specs.history.Phases.{spot_of}
 use Rattle.teb_rules.specs.Setup.{Setup}
 use Rattle.teb_rules.specs.Tree.{on_path}
 use Rattle.candidate_reads.specs.declared.placing.Place.{Place}

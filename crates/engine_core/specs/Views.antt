@@ -1,6 +1,6 @@
 -- The store and the history that a view tells of.
 use Rattle.std.specs.Prelude.{List}
-use Rattle.teb_history.specs.declared.Event.{Event}
+use Rattle.teb_rules.specs.declared.history.Event.{Event}
 use Rattle.teb_rules.specs.Setup.{Store}
 use Rattle.phase_api.specs.FactsView.{events_of}
 use Rattle.engine_core.specs.declared.engine_view.EngineView.{EngineView}

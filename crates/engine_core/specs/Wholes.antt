@@ -1,13 +1,13 @@
 -- What holds of all that an engine keeps together.
 use Rattle.std.specs.Prelude.{◌≡◌, ◌≤◌, ℕ, List, length, slice_get, Some}
-use Rattle.teb_names.specs.declared.TheConstants.{MOST_TXNS}
-use Rattle.teb_names.specs.declared.Cell.{Cell}
-use Rattle.teb_names.specs.declared.Txn.{Txn}
-use Rattle.teb_history.specs.declared.Event.{Event}
-use Rattle.teb_history.specs.Phases.{begun_count}
+use Rattle.teb_rules.specs.declared.names.TheConstants.{MOST_TXNS}
+use Rattle.teb_rules.specs.declared.names.Cell.{Cell}
+use Rattle.teb_rules.specs.declared.names.Txn.{Txn}
+use Rattle.teb_rules.specs.declared.history.Event.{Event}
+use Rattle.teb_rules.specs.history.Phases.{begun_count}
 use Rattle.teb_rules.specs.Setup.{Store}
 use Rattle.teb_rules.specs.Accepted.{IsSound}
-use Rattle.teb_laws.specs.Lawful.{Lawful}
+use Rattle.teb_rules.specs.laws.Lawful.{Lawful}
 use Rattle.version_chain.specs.Lists.{Version}
 use Rattle.phase_api.specs.Standing.{StandAll}
 use Rattle.phase_api.specs.Versions.{HoldsVersions}

@@ -4,7 +4,7 @@ ghost use Rattle.engine_core.specs.Asking.{IsAsking};
 ghost use Rattle.engine_core.specs.Views.{store_in, events_in};
 
 use crate::asking::Asking;
-use teb_names::Cell;
+use teb_rules::names::Cell;
 use version_chain::Chains;
 
 /// A transaction that asks to access a cell, and is not refused.

@@ -1,7 +1,7 @@
 //! Decisions on reads, writes and deletions, and the refusals of every access.
 
 ghost use Rattle.std.specs.Prelude.{◌≡◌, None};
-ghost use Rattle.teb_names.specs.declared.Request.TheVariants as request;
+ghost use Rattle.teb_rules.specs.declared.names.Request.TheVariants as request;
 ghost use Rattle.teb_rules.specs.Answer.{answer_of, got_value, or_refused, put_value};
 ghost use Rattle.teb_rules.specs.Versions.{read};
 ghost use Rattle.engine_core.specs.Views.{store_in, events_in};
@@ -14,9 +14,9 @@ use crate::decision::{Decision, refused, stopped};
 use crate::put_places::{asked_place, at_of, granted_place};
 use crate::stops::{read_stop, write_stop};
 use short_reply::ShortReply;
-use teb_history::Event;
-use teb_names::{Cell, Refusal};
 use teb_rules::Stop;
+use teb_rules::history::Event;
+use teb_rules::names::{Cell, Refusal};
 use version_chain::Chains;
 
 /// Reads a cell.

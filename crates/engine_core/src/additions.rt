@@ -1,8 +1,8 @@
 //! Decisions on additions.
 
 ghost use Rattle.std.specs.Prelude.{◌≡◌};
-ghost use Rattle.teb_names.specs.declared.Request.TheVariants as request;
-ghost use Rattle.teb_history.specs.Accesses.{last_put, last_got};
+ghost use Rattle.teb_rules.specs.declared.names.Request.TheVariants as request;
+ghost use Rattle.teb_rules.specs.history.Accesses.{last_put, last_got};
 ghost use Rattle.teb_rules.specs.Answer.{answer_of, add_base};
 ghost use Rattle.engine_core.specs.Views.{store_in, events_in};
 ghost use Rattle.engine_core.specs.Decisions.{carried, sum_of, IsBounded};
@@ -11,7 +11,7 @@ use crate::access::Access;
 use crate::accesses::{put, refusal};
 use crate::asking::Asking;
 use crate::decision::{Decision, refused};
-use teb_names::{Cell, Refusal};
+use teb_rules::names::{Cell, Refusal};
 use version_chain::Chains;
 
 /// Adds to the value that the transaction has put or read.

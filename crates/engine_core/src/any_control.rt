@@ -11,9 +11,9 @@ use phase_api::{Control, Facts};
 use runtime_pipeline::Pipeline;
 use snapshot_node::Snapshot;
 use std::alloc::{AllocError, Global};
-use teb_history::Event;
-use teb_names::{Cell, ControlKind, Node, Spot, Txn};
 use teb_rules::Verdict;
+use teb_rules::history::Event;
+use teb_rules::names::{Cell, ControlKind, Node, Spot, Txn};
 use timestamp_node::Stamps;
 use version_chain::Chains;
 

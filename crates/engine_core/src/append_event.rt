@@ -11,7 +11,7 @@ use crate::notes::note_each;
 use candidate_reads::Place;
 use cursor_book::Cursors;
 use store_setup::Setup;
-use teb_history::{Event, History};
+use teb_rules::history::{Event, History};
 use version_chain::Chains;
 
 /// Appends an event that the rules grant; a Put has the place of its version. It takes one place of the room.

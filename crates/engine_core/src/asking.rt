@@ -1,15 +1,15 @@
 //! The transaction that asks. It is neither committed nor aborted.
 
 ghost use Rattle.std.specs.Prelude.{◌≡◌, ◌<◌, IsTrue, is_some};
-ghost use Rattle.teb_history.specs.Phases.{unfinished, prepared, spot_of, kind_of};
+ghost use Rattle.teb_rules.specs.history.Phases.{unfinished, prepared, spot_of, kind_of};
 ghost use Rattle.teb_rules.specs.Setup.{profile};
 ghost use Rattle.teb_rules.specs.Steps.{least_step, cursor};
 ghost use Rattle.teb_rules.specs.Tree.{path};
-ghost use Rattle.cc_tree.specs.Grown.{node_numbers};
+ghost use Rattle.store_setup.specs.tree.Grown.{node_numbers};
 ghost use Rattle.engine_core.specs.Views.{store_in, events_in};
 
 use crate::engine_view::EngineView;
-use teb_names::{Node, Spot, Table, Txn};
+use teb_rules::names::{Node, Spot, Table, Txn};
 use version_chain::Chains;
 
 /// An unfinished transaction that asks, and what the decision looks at. It is looked up once a request.

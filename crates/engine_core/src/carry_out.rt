@@ -1,7 +1,7 @@
 //! Carrying out a decision.
 
 ghost use Rattle.std.specs.Prelude.{◌≡◌};
-ghost use Rattle.teb_laws.specs.Lawful.{Lawful};
+ghost use Rattle.teb_rules.specs.laws.Lawful.{Lawful};
 ghost use Rattle.short_reply.specs.ShortReplies.{full_reply};
 ghost use Rattle.engine_core.specs.Decisions.{carried, IsBounded, IsShort};
 ghost use Rattle.engine_core.specs.Cells.{HasKeys};
@@ -15,8 +15,8 @@ use crate::falls::fall;
 use crate::read_cells::read_cells;
 use candidate_reads::Place;
 use short_reply::ShortReply;
-use teb_history::Event;
-use teb_names::{Cell, Reply, Txn};
+use teb_rules::history::Event;
+use teb_rules::names::{Cell, Reply, Txn};
 use version_chain::Chains;
 
 /// Reads the cells of a scan, and replies with their values. It is not inlined, since scans are rare and their reply is long.

@@ -14,9 +14,9 @@ use crate::holding::{Holding, held};
 use crate::scans::decide_scan;
 use crate::stops::{begin_stop, commit_stop, prepare_stop};
 use short_reply::ShortReply;
-use teb_history::Event;
-use teb_names::{Cause, MOST_TXNS, Refusal, Request, SESSIONS, Session, Spot, Txn};
 use teb_rules::Stop;
+use teb_rules::history::Event;
+use teb_rules::names::{Cause, MOST_TXNS, Refusal, Request, SESSIONS, Session, Spot, Txn};
 use version_chain::Chains;
 
 /// Decides a request of a session.

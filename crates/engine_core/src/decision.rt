@@ -1,15 +1,15 @@
 //! Decisions: what the engine does on a request.
 
 ghost use Rattle.std.specs.Prelude.{◌≡◌, List};
-ghost use Rattle.teb_history.specs.declared.Event.{Event};
+ghost use Rattle.teb_rules.specs.declared.history.Event.{Event};
 ghost use Rattle.teb_rules.specs.Setup.{Store};
 ghost use Rattle.teb_rules.specs.Verdicts.{cause_at};
 ghost use Rattle.engine_core.specs.Decisions.{IsStopped};
 
 use candidate_reads::Place;
 use short_reply::ShortReply;
-use teb_history::Event;
-use teb_names::{Cause, Cell, Node, Refusal, Txn};
+use teb_rules::history::Event;
+use teb_rules::names::{Cause, Cell, Node, Refusal, Txn};
 use teb_rules::{Broken, Stop};
 
 /// What the engine does with a request.

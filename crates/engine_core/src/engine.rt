@@ -1,10 +1,10 @@
 //! The engine of a store.
 
 ghost use Rattle.std.specs.Prelude.{◌≡◌, [], IsTrue, true, false, IfOk, OnOk, OnErr};
-ghost use Rattle.teb_names.specs.declared.Cell.{Cell};
+ghost use Rattle.teb_rules.specs.declared.names.Cell.{Cell};
 ghost use Rattle.teb_rules.specs.Accepted.{IsSound};
 ghost use Rattle.teb_rules.specs.Answer.{answer};
-ghost use Rattle.teb_laws.specs.Lawful.{Lawful};
+ghost use Rattle.teb_rules.specs.laws.Lawful.{Lawful};
 ghost use Rattle.phase_api.specs.Standing.{StandAll};
 ghost use Rattle.phase_api.specs.Versions.{HoldsVersions};
 ghost use Rattle.dependency_book.specs.Books.{BookOf};
@@ -27,8 +27,8 @@ use short_reply::ShortReply;
 use std::alloc::{AllocError, Global};
 use std::marker::Model;
 use store_setup::Setup;
-use teb_history::History;
-use teb_names::{MOST_TXNS, Reply, Request, Session};
+use teb_rules::history::History;
+use teb_rules::names::{MOST_TXNS, Reply, Request, Session};
 use version_chain::Chains;
 
 /// A store with its history, which answers requests. Contracts see the store, its names, the events, the

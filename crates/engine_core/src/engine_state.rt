@@ -15,8 +15,8 @@ use cursor_book::Cursors;
 use dependency_book::Book;
 use phase_api::Facts;
 use store_setup::Setup;
-use teb_history::History;
-use teb_names::{Cell, Request, Session, Txn};
+use teb_rules::history::History;
+use teb_rules::names::{Cell, Request, Session, Txn};
 use version_chain::Chains;
 
 /// A store with its history, and what is kept of the history: a control for each node, the versions, the dependencies, the
@@ -38,10 +38,10 @@ pub struct EngineState<C: Chains> {
 
 impl<C: Chains> EngineState<C> {
     ghost use Rattle.std.specs.Prelude.{IsTrue};
-    ghost use Rattle.teb_history.specs.Phases.{unfinished};
+    ghost use Rattle.teb_rules.specs.history.Phases.{unfinished};
     ghost use Rattle.teb_rules.specs.Answer.{answer};
     ghost use Rattle.teb_rules.specs.Versions.{read};
-    ghost use Rattle.teb_laws.specs.Lawful.{Settled};
+    ghost use Rattle.teb_rules.specs.laws.Lawful.{Settled};
     ghost use Rattle.engine_core.specs.Decisions.{carried, IsBounded};
     ghost use Rattle.engine_core.specs.Views.{store_in};
 

@@ -6,7 +6,7 @@ ghost use Rattle.engine_core.specs.Props.{kept};
 use crate::engine_state::EngineState;
 use candidate_reads::read;
 use phase_api::Facts;
-use teb_names::{Cell, Kind, Table, Txn};
+use teb_rules::names::{Cell, Kind, Table, Txn};
 use version_chain::Chains;
 
 /// What an engine keeps between two answers, lent to be read, and the facts that controls are told. It is five words, made at each request.
@@ -20,7 +20,7 @@ pub struct EngineView<'a, C: Chains> {
 impl<'a, C: Chains> EngineView<'a, C> {
     ghost use Rattle.std.specs.Prelude.{◌≡◌, ltb, IsTrue};
     ghost use Rattle.teb_rules.specs.Versions.{read};
-    ghost use Rattle.teb_history.specs.Phases.{unfinished};
+    ghost use Rattle.teb_rules.specs.history.Phases.{unfinished};
     ghost use Rattle.engine_core.specs.Views.{store_in, events_in};
 
     /// Returns whether the store has a table.

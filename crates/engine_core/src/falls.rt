@@ -1,7 +1,7 @@
 //! An abort, with its cascade.
 
 ghost use Rattle.std.specs.Prelude.{◌≡◌, IsTrue};
-ghost use Rattle.teb_history.specs.Phases.{unfinished};
+ghost use Rattle.teb_rules.specs.history.Phases.{unfinished};
 ghost use Rattle.teb_rules.specs.Cascade.{abort};
 ghost use Rattle.engine_core.specs.States.{IsReady};
 
@@ -9,8 +9,8 @@ use crate::append_event::append_event;
 use crate::engine_state::{EngineState, facts_of};
 use abort_cascade::cascade;
 use candidate_reads::Place;
-use teb_history::Event;
-use teb_names::{Cause, Txn};
+use teb_rules::history::Event;
+use teb_rules::names::{Cause, Txn};
 use version_chain::Chains;
 
 /// Aborts an unfinished transaction, and then its cascade, in ascending number.

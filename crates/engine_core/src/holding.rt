@@ -4,8 +4,8 @@ ghost use Rattle.engine_core.specs.Views.{events_in};
 ghost use Rattle.engine_core.specs.HeldBy.{IsHeld};
 
 use crate::engine_view::EngineView;
-use teb_history::Phase;
-use teb_names::{Session, Txn};
+use teb_rules::history::Phase;
+use teb_rules::names::{Session, Txn};
 use version_chain::Chains;
 
 /// What a session holds.

@@ -1,11 +1,11 @@
 //! Noting an event in the versions and the cursors.
 
 ghost use Rattle.std.specs.Prelude.{◌≡◌, ◌<◌, ◌≤◌, ◌+◌, ◌∷◌, List};
-ghost use Rattle.teb_history.specs.declared.Event.{Event};
+ghost use Rattle.teb_rules.specs.declared.history.Event.{Event};
 ghost use Rattle.teb_rules.specs.Setup.{Setup};
-ghost use Rattle.teb_laws.specs.TreeFacts.{TreeFacts};
-ghost use Rattle.teb_laws.specs.Lawful.{Lawful};
-ghost use Rattle.teb_history.specs.Phases.{kind_of};
+ghost use Rattle.teb_rules.specs.laws.TreeFacts.{TreeFacts};
+ghost use Rattle.teb_rules.specs.laws.Lawful.{Lawful};
+ghost use Rattle.teb_rules.specs.history.Phases.{kind_of};
 ghost use Rattle.teb_rules.specs.Setup.{profile};
 ghost use Rattle.phase_api.specs.FactsView.{setup_of, events_of};
 ghost use Rattle.phase_api.specs.Versions.{HoldsVersions};
@@ -16,8 +16,8 @@ ghost use Rattle.engine_core.specs.Appends.{AreBehind, HasCursor};
 use candidate_reads::Place;
 use cursor_book::Cursors;
 use phase_api::Facts;
-use teb_history::Event;
-use teb_names::{Cell, Txn};
+use teb_rules::history::Event;
+use teb_rules::names::{Cell, Txn};
 use version_chain::Chains;
 
 /// Notes the newest event in the versions: a Put gives its transaction's version the value, at the place, and an abort removes all

@@ -1,12 +1,12 @@
 //! Which transaction each session began last.
 
 ghost use Rattle.std.specs.Prelude.{◌≡◌, ◌∷◌, [], List};
-ghost use Rattle.teb_history.specs.declared.Event.{Event};
+ghost use Rattle.teb_rules.specs.declared.history.Event.{Event};
 ghost use Rattle.engine_core.specs.Latest.{AreLatest, listed};
 
 use std::marker::Model;
-use teb_history::Event;
-use teb_names::{Session, Txn};
+use teb_rules::history::Event;
+use teb_rules::names::{Session, Txn};
 
 /// For each session the transaction that it began last, or 0 if it began none. Contracts see their list.
 #[derive(Drop)]
@@ -17,7 +17,7 @@ pub struct LatestTxns {
 
 impl Model for LatestTxns {
     ghost use Rattle.std.specs.Prelude.{List};
-    ghost use Rattle.teb_names.specs.declared.Txn.{Txn};
+    ghost use Rattle.teb_rules.specs.declared.names.Txn.{Txn};
 
     ghost Value = { List Txn };
 

@@ -19,7 +19,7 @@
 //!
 //! **What is proved.** Contracts see an engine as its store, names, events, and whether there is room (`EngineModel`). The reply and
 //! the next events are `answer` of `teb_rules` (`Engine::ask`, clauses `reply` and `events`). The invariant keeps that some list of
-//! requests leads to the events (`IsOfEngine`; `Engine::history`, clause `reached`). So every law of `teb_laws` and `guarantees`
+//! requests leads to the events (`IsOfEngine`; `Engine::history`, clause `reached`). So every law of `teb_rules::laws` and `guarantees`
 //! holds of every engine at every moment. An `Err` of `ready` changes nothing (clause `err`).
 //!
 //! **What it costs.** A request costs what it touches: the nodes of one path, and what each looks up (`docs/PERFORMANCE.md`).

@@ -1,7 +1,7 @@
 //! Noting an event in each control.
 
 ghost use Rattle.std.specs.Prelude.{◌≡◌, ◌<◌, ◌≤◌, ℕ, suc, List, drop, length, OnOk, ◌∷◌};
-ghost use Rattle.teb_history.specs.declared.Event.{Event};
+ghost use Rattle.teb_rules.specs.declared.history.Event.{Event};
 ghost use Rattle.teb_rules.specs.Setup.{Setup as Rules};
 ghost use Rattle.phase_api.specs.Calls.{MayNote};
 ghost use Rattle.phase_api.specs.Standing.{StandAll};
@@ -12,7 +12,7 @@ use crate::engine_state::facts_of;
 use phase_api::Control;
 use std::alloc::AllocError;
 use store_setup::Setup;
-use teb_history::{Event, History};
+use teb_rules::history::{Event, History};
 
 /// Notes the newest event in the control of each node.
 #[inline(always)]

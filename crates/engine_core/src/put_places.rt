@@ -4,7 +4,7 @@
 ghost use Rattle.std.specs.Prelude.{◌≡◌, ◌<◌, All, IfSome, length};
 ghost use Rattle.std.specs.List.{list_any};
 ghost use Rattle.teb_rules.specs.Tree.{row, is_timestamp};
-ghost use Rattle.cc_tree.specs.Grown.{node_numbers};
+ghost use Rattle.store_setup.specs.tree.Grown.{node_numbers};
 ghost use Rattle.version_chain.specs.Lists.{writers_of};
 ghost use Rattle.engine_core.specs.Keeping.{IsPlaced};
 ghost use Rattle.engine_core.specs.Views.{store_in, events_in};
@@ -12,8 +12,8 @@ ghost use Rattle.engine_core.specs.Stopping.{at_of, AreTold};
 
 use crate::asking::Asking;
 use candidate_reads::{Place, place_behind, place_of};
-use cc_tree::Tree;
-use teb_names::{Cell, ControlKind, Node};
+use store_setup::tree::Tree;
+use teb_rules::names::{Cell, ControlKind, Node};
 use version_chain::Chains;
 
 /// Returns the place of t's version of a cell, if a timestamp node is on t's path.

@@ -2,14 +2,14 @@
 
 ghost use Rattle.std.specs.Prelude.{◌≡◌, All};
 ghost use Rattle.teb_rules.specs.Stops.{stop_with, stop_of};
-ghost use Rattle.cc_tree.specs.Grown.{node_numbers};
+ghost use Rattle.store_setup.specs.tree.Grown.{node_numbers};
 ghost use Rattle.engine_core.specs.Questions.{CanAsk, verdict_on};
 ghost use Rattle.engine_core.specs.Views.{store_in, events_in};
 
 use crate::engine_view::EngineView;
 use candidate_reads::control_at;
 use phase_api::Control;
-use teb_names::{Cell, Node, Spot, Txn};
+use teb_rules::names::{Cell, Node, Spot, Txn};
 use teb_rules::{Stop, Verdict};
 use version_chain::Chains;
 

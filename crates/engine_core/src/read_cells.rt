@@ -2,7 +2,7 @@
 
 ghost use Rattle.std.specs.Prelude.{◌≡◌};
 ghost use Rattle.teb_rules.specs.Answer.{cells_from, read_all};
-ghost use Rattle.teb_laws.specs.Lawful.{Lawful};
+ghost use Rattle.teb_rules.specs.laws.Lawful.{Lawful};
 ghost use Rattle.engine_core.specs.Cells.{HasKeys};
 ghost use Rattle.store_setup.specs.Stores.{store_of};
 ghost use Rattle.engine_core.specs.States.{IsReady};
@@ -11,8 +11,8 @@ use crate::append_event::append_event;
 use crate::engine_state::EngineState;
 use crate::scans::cell_at;
 use candidate_reads::Place;
-use teb_history::Event;
-use teb_names::{Cell, ScanList, Txn};
+use teb_rules::history::Event;
+use teb_rules::names::{Cell, ScanList, Txn};
 use version_chain::Chains;
 
 /// Reads the cells one after the other, and returns their values. Each is read in the history with the reads before it.

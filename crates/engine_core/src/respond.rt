@@ -10,7 +10,7 @@ use crate::carry_out::write;
 use crate::decision::Decision;
 use crate::engine_state::EngineState;
 use short_reply::ShortReply;
-use teb_names::{Cell, Request, Session, Txn};
+use teb_rules::names::{Cell, Request, Session, Txn};
 use version_chain::Chains;
 
 /// The outcome of a request.

@@ -5,7 +5,7 @@ ghost use Rattle.std.specs.Prelude.{◌≡◌, ◌≤◌, OnOk};
 use crate::engine_state::EngineState;
 use crate::notes::reserve_each;
 use std::alloc::AllocError;
-use teb_names::SESSIONS;
+use teb_rules::names::SESSIONS;
 use version_chain::Chains;
 
 /// The most events of one answer: an abort takes one transaction of each other session with it at most, and a scan reads 16 cells.

@@ -1,7 +1,7 @@
 //! The answer to a scan: cells with consecutive keys are read, in ascending order.
 
 ghost use Rattle.std.specs.Prelude.{◌≡◌, ◌≤◌, ◌<◌, ◌+◌, ◌^◌};
-ghost use Rattle.teb_names.specs.declared.Request.TheVariants as request;
+ghost use Rattle.teb_rules.specs.declared.names.Request.TheVariants as request;
 ghost use Rattle.teb_rules.specs.Stops.{scan_stop};
 ghost use Rattle.teb_rules.specs.Answer.{answer_of, cells_from, is_scan};
 ghost use Rattle.engine_core.specs.Views.{store_in, events_in};
@@ -13,8 +13,8 @@ use crate::accesses::refusal;
 use crate::asking::Asking;
 use crate::decision::{Decision, refused, stopped};
 use crate::stops::read_stop;
-use teb_names::{Cell, Refusal};
 use teb_rules::Stop;
+use teb_rules::names::{Cell, Refusal};
 use version_chain::Chains;
 
 /// Decides a scan of `count` cells.

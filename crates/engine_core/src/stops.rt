@@ -11,8 +11,8 @@ use crate::asking::Asking;
 use crate::engine_view::EngineView;
 use crate::questions::{Question, first_stop};
 use commit_gate::may_commit;
-use teb_names::Spot;
 use teb_rules::Stop;
+use teb_rules::names::Spot;
 use version_chain::Chains;
 
 /// Returns the stop of a read.

@@ -1,7 +1,7 @@
 -- The engine of a setup with other rows.
 use Rattle.std.proofs.Common.{◌≡◌, false, [], length, Result, Ok, Err, sym, ◌∙◌, ap, subst}
 use Rattle.std.specs.Prelude.{IfOk}
-use Rattle.teb_names.specs.declared.naming.NameBook.{NameBook}
+use Rattle.teb_rules.specs.declared.names.naming.NameBook.{NameBook}
 use Rattle.teb_rules.specs.Setup.{Store}
 use Rattle.teb_rules.specs.Accepted.{IsSound}
 use Rattle.store_setup.specs.declared.Setup.{Setup}

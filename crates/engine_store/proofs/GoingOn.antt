@@ -1,8 +1,8 @@
 -- The present epoch continues.
 use Rattle.std.proofs.Common.{◌≡◌, List, Option, Some, None}
-use Rattle.teb_names.specs.declared.Session.{Session}
-use Rattle.teb_names.specs.declared.Request.{Request}
-use Rattle.teb_names.specs.declared.Reply.{Reply}
+use Rattle.teb_rules.specs.declared.names.Session.{Session}
+use Rattle.teb_rules.specs.declared.names.Request.{Request}
+use Rattle.teb_rules.specs.declared.names.Reply.{Reply}
 use Rattle.teb_rules.specs.Answer.{answer}
 use Rattle.engine_core.specs.EngineModel.{EngineModel}
 use Rattle.tree_switch.specs.Courses.{IsCourse}

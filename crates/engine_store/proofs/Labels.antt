@@ -4,7 +4,7 @@ use Rattle.std.specs.List.{list_all}
 use Rattle.std.proofs.lemmas.List.{append-nil}
 use Rattle.std.proofs.lemmas.Bool.{and_parts}
 use Rattle.std.specs.Prelude.{slice_index, length, nat_le}
-use Rattle.teb_names.specs.Names.{is_lower, is_name, is_name_byte}
+use Rattle.teb_rules.specs.names.Names.{is_lower, is_name, is_name_byte}
 use Rattle.engine_store.specs.Label.{LabelTellsNames, label_of, line_of}
 
 pub label_more : (names : List (List ℕ)) (i : ℕ) (name : List ℕ) → slice_get names i ≡ Some name → label_of (take (i + 1) names) ≡ label_of (take i names) ++ line_of name

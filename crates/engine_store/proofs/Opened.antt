@@ -1,7 +1,7 @@
 -- A store that begins with the rows that were read.
 use Rattle.std.proofs.Common.{◌≡◌, ℕ, false, List, [], take, ℤ, sym, ◌∙◌, ap, subst}
-use Rattle.teb_names.specs.declared.Cell.{Cell}
-use Rattle.teb_names.specs.Rows.{row_of, IsAscending}
+use Rattle.teb_rules.specs.declared.names.Cell.{Cell}
+use Rattle.teb_rules.specs.names.Rows.{row_of, IsAscending}
 use Rattle.teb_rules.specs.Replay.{Values}
 use Rattle.crash_disk.specs.Disk.{LeavesOnly, Only}
 use Rattle.record_journal.specs.Format.{Record}

@@ -1,10 +1,10 @@
 -- Rows of which one is not of the first tables.
 use Rattle.std.proofs.Common.{ℕ, zero, suc, ◌<◌, ◌≤◌, List, [], ◌∷◌, length, Bool, true, false, cond, Some, ℤ, refl, ap, get_or, arith}
 use Rattle.std.specs.Prelude.{IsSome, is_some, Option}
-use Rattle.teb_names.specs.declared.Cell.{Cell}
-use Rattle.teb_names.specs.Cells.{same_cell}
-use Rattle.teb_names.specs.Rows.{row_of}
-use Rattle.teb_names.proofs.SameCells.{same_itself}
+use Rattle.teb_rules.specs.declared.names.Cell.{Cell}
+use Rattle.teb_rules.specs.names.Cells.{same_cell}
+use Rattle.teb_rules.specs.names.Rows.{row_of}
+use Rattle.teb_rules.proofs.lemmas.names.SameCells.{same_itself}
 use Rattle.engine_store.specs.Opening.{HasRowOutside}
 
 some_with : (b : Bool) (v : ℤ) (o : Option ℤ) → IsSome o → IsSome (cond b (Some v) o)

@@ -1,6 +1,6 @@
 -- A disk that is handed back.
 use Rattle.std.proofs.Common.{◌≡◌, ◌⊎◌, inl, inr, ⊎_elim, ℕ, ◌+◌, ◌*◌, ◌<◌, ◌≤◌, List, length, refl, sym, ◌∙◌, ap, subst, arith}
-use Rattle.teb_names.specs.Rows.{row_of}
+use Rattle.teb_rules.specs.names.Rows.{row_of}
 use Rattle.teb_rules.specs.Replay.{Values}
 use Rattle.teb_io.specs.Faults.{Rose}
 use Rattle.crash_disk.specs.Disk.{IsQuiet, LeavesOnly}

@@ -1,7 +1,7 @@
 -- The two halves of a store, in terms of histories: which commits wait, and which ones a journal keeps.
 use Rattle.std.specs.Prelude.{◌≡◌, ℕ, List, ◌++◌}
-use Rattle.teb_names.specs.Rows.{row_of}
-use Rattle.teb_history.specs.declared.Event.{Event}
+use Rattle.teb_rules.specs.names.Rows.{row_of}
+use Rattle.teb_rules.specs.declared.history.Event.{Event}
 use Rattle.teb_rules.specs.Setup.{Store}
 use Rattle.record_journal.specs.Format.{Record}
 use Rattle.commit_laws.specs.Records.{records_of}

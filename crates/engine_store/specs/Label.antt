@@ -1,7 +1,7 @@
 -- The label of a journal.
 use Rattle.std.specs.Prelude.{◌≡◌, ℕ, true, List, [], ◌∷◌, ◌++◌}
 use Rattle.std.specs.List.{flat_map, list_all}
-use Rattle.teb_names.specs.Names.{is_name}
+use Rattle.teb_rules.specs.names.Names.{is_name}
 
 -- a name and a newline
 abbrev pub line_of : List ℕ → List ℕ

@@ -1,15 +1,15 @@
 -- The life of a store over its openings: each epoch as far as a crash left it.
 use Rattle.std.specs.Prelude.{◌≡◌, ◌≤◌, ℕ, List, [], ◌∷◌, ◌++◌, map}
 use Rattle.std.specs.List.{All, flat_map}
-use Rattle.teb_names.specs.declared.Cell.{Cell}
-use Rattle.teb_names.specs.Rows.{row_of}
-use Rattle.teb_history.specs.declared.Event.{Event}
+use Rattle.teb_rules.specs.declared.names.Cell.{Cell}
+use Rattle.teb_rules.specs.names.Rows.{row_of}
+use Rattle.teb_rules.specs.declared.history.Event.{Event}
 use Rattle.teb_rules.specs.Setup.{Store}
 use Rattle.teb_rules.specs.Accepted.{IsSound}
 use Rattle.teb_rules.specs.Ranks.{serial_order}
 use Rattle.teb_rules.specs.Replay.{Values}
 use Rattle.teb_rules.specs.Serializes.{Serializes}
-use Rattle.teb_laws.specs.Lawful.{Lawful, ReadsRows}
+use Rattle.teb_rules.specs.laws.Lawful.{Lawful, ReadsRows}
 use Rattle.engine_core.specs.EngineModel.{EngineModel, IsOfEngine}
 use Rattle.tree_switch.specs.Serial.{Order, ReadsRight, table_along}
 use Rattle.commit_laws.specs.Commits.{commit_count, rows_after, up_to_commit}

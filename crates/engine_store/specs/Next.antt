@@ -1,6 +1,6 @@
 -- Why an epoch is not followed by the next.
 use Rattle.std.specs.Prelude.{◌≡◌, ◌≢◌, ℕ, ◌+◌, ◌*◌, ◌<◌, ℤ, List, length}
-use Rattle.teb_names.specs.declared.Cell.{Cell}
+use Rattle.teb_rules.specs.declared.names.Cell.{Cell}
 use Rattle.engine_core.specs.EngineModel.{EngineModel}
 use Rattle.crash_disk.specs.Calls.{Tally, IsUpTo}
 use Rattle.serial_order.specs.Tables.{IsFinalRows}

@@ -1,8 +1,8 @@
 -- With what an opened store begins, and why a store is not opened.
 use Rattle.std.specs.Prelude.{◌≡◌, ◌⊎◌, ℕ, ◌+◌, ◌*◌, ◌<◌, ◌≤◌, false, List, [], length, take, ℤ, IsSome}
 use Rattle.std.specs.List.{All}
-use Rattle.teb_names.specs.declared.Cell.{Cell}
-use Rattle.teb_names.specs.Rows.{row_of, IsAscending}
+use Rattle.teb_rules.specs.declared.names.Cell.{Cell}
+use Rattle.teb_rules.specs.names.Rows.{row_of, IsAscending}
 use Rattle.teb_rules.specs.Replay.{Values}
 use Rattle.teb_io.specs.Faults.{Rose}
 use Rattle.store_setup.specs.declared.Setup.{Setup}

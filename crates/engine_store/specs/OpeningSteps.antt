@@ -1,6 +1,6 @@
 -- A disk that was read.
 use Rattle.std.specs.Prelude.{◌≡◌, ℕ, List}
-use Rattle.teb_names.specs.Rows.{row_of, IsAscending}
+use Rattle.teb_rules.specs.names.Rows.{row_of, IsAscending}
 use Rattle.teb_rules.specs.Replay.{Values}
 use Rattle.crash_disk.specs.Disk.{IsQuiet, Only}
 use Rattle.record_journal.specs.Format.{Record}

@@ -1,7 +1,7 @@
 -- What a disk has of an epoch.
 use Rattle.std.specs.Prelude.{◌≡◌, ℕ, ◌≤◌, List, [], length}
-use Rattle.teb_names.specs.Rows.{row_of}
-use Rattle.teb_history.specs.declared.Event.{Event}
+use Rattle.teb_rules.specs.names.Rows.{row_of}
+use Rattle.teb_rules.specs.declared.history.Event.{Event}
 use Rattle.teb_rules.specs.Replay.{Values}
 use Rattle.teb_rules.specs.Setup.{Store}
 use Rattle.crash_disk.specs.Calls.{Tally, IsUpTo}

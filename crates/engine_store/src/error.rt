@@ -5,7 +5,7 @@ ghost use Rattle.engine_store.specs.declared.error.NextError.TheVariants.{OutOfM
 
 use epoch_journal::CheckpointError;
 use std::alloc::AllocError;
-use teb_names::{Session, Txn};
+use teb_rules::names::{Session, Txn};
 use thiserror::Error;
 
 /// Why the next epoch has not begun. The first cause in this order is returned.

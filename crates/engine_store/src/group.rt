@@ -2,7 +2,7 @@
 
 ghost use Rattle.std.specs.Prelude.{◌≡◌, ◌⊎◌, ◌+◌, ◌-◌, ◌<◌, ◌++◌, ◌∷◌, [], length, Ok, None, true, false, IfOk, IfErr, OnOk, OnErr, IsErrOf, List, ℕ};
 ghost use Rattle.teb_io.specs.Faults.{Rose};
-ghost use Rattle.teb_names.specs.declared.Reply.TheVariants as replies;
+ghost use Rattle.teb_rules.specs.declared.names.Reply.TheVariants as replies;
 ghost use Rattle.teb_rules.specs.Answer.{answer};
 ghost use Rattle.teb_rules.specs.Ranks.{serial_order};
 ghost use Rattle.teb_rules.specs.Replay.{Values};
@@ -30,7 +30,7 @@ use epoch_store::{AskError, GroupCommit};
 use std::alloc::Global;
 use std::marker::Model;
 use teb_io::Failed;
-use teb_names::{Reply, Request, Session};
+use teb_rules::names::{Reply, Request, Session};
 use version_chain::Chains;
 
 /// A store whose commits wait for the disk together. `ask` answers a commit before it is on the disk; `sync` writes all commits that wait

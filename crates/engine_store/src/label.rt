@@ -4,7 +4,7 @@ ghost use Rattle.std.specs.Prelude.{◌≡◌, IfOk};
 ghost use Rattle.engine_store.specs.Label.{LabelTellsNames, label_of};
 
 use std::alloc::{AllocError, Global};
-use teb_names::Names;
+use teb_rules::names::Names;
 
 /// Returns the names, each followed by a newline.
 ///

@@ -2,8 +2,8 @@
 
 ghost use Rattle.std.specs.Prelude.{◌≡◌, ◌+◌, ◌*◌, ◌++◌, ◌∷◌, [], true, false, IfOk, IfErr, OnErr, IsErrOf, MatchResult, List, ℕ, length};
 ghost use Rattle.teb_io.specs.Faults.{Rose};
-ghost use Rattle.teb_names.specs.declared.Cell.{Cell as TheCell};
-ghost use Rattle.teb_names.specs.Rows.{row_of};
+ghost use Rattle.teb_rules.specs.declared.names.Cell.{Cell as TheCell};
+ghost use Rattle.teb_rules.specs.names.Rows.{row_of};
 ghost use Rattle.teb_rules.specs.Replay.{Values};
 ghost use Rattle.store_setup.specs.SetupView.{setup_view};
 ghost use Rattle.store_setup.specs.Sound.{IsWhole};

@@ -1,8 +1,8 @@
 //! How a store is opened: the rows of the disk are read, an engine begins with them, and so does an epoch of the journal.
 
 ghost use Rattle.std.specs.Prelude.{◌≡◌, ◌+◌, ◌*◌, ◌<◌, [], length, IfOk, IfErr};
-ghost use Rattle.teb_names.specs.declared.Cell.{Cell as TheCell};
-ghost use Rattle.teb_names.specs.Rows.{row_of, IsAscending};
+ghost use Rattle.teb_rules.specs.declared.names.Cell.{Cell as TheCell};
+ghost use Rattle.teb_rules.specs.names.Rows.{row_of, IsAscending};
 ghost use Rattle.store_setup.specs.SetupView.{setup_view};
 ghost use Rattle.store_setup.specs.Sound.{IsWhole};
 ghost use Rattle.crash_disk.specs.Calls.{IsUpTo};
@@ -20,7 +20,7 @@ use engine_core::Engine;
 use epoch_journal::{EpochJournal, RecoveredDisk};
 use std::alloc::{AllocError, Global};
 use store_setup::Setup;
-use teb_names::Cell;
+use teb_rules::names::Cell;
 use tree_switch::with_rows;
 use version_chain::Chains;
 

@@ -1,8 +1,8 @@
 //! The half of a store that answers: an engine whose commits wait for a journal elsewhere.
 
 ghost use Rattle.std.specs.Prelude.{◌≡◌, ◌↔◌, ◌⊎◌, ◌+◌, ◌++◌, ◌∷◌, [], length, None, IsTrue, IfOk, IfErr, OnErr, IsErrOf, List, ℕ};
-ghost use Rattle.teb_names.specs.declared.Reply.TheVariants as replies;
-ghost use Rattle.teb_history.specs.declared.Event.{Event};
+ghost use Rattle.teb_rules.specs.declared.names.Reply.TheVariants as replies;
+ghost use Rattle.teb_rules.specs.declared.history.Event.{Event};
 ghost use Rattle.teb_rules.specs.Answer.{answer};
 ghost use Rattle.teb_rules.specs.Ranks.{serial_order};
 ghost use Rattle.teb_rules.specs.Replay.{Values};
@@ -29,7 +29,7 @@ use epoch_journal::{EpochJournal, Group};
 use epoch_store::{AskError, CommitQueue, EpochStore};
 use std::alloc::Global;
 use std::marker::Model;
-use teb_names::{Reply, Request, Session};
+use teb_rules::names::{Reply, Request, Session};
 use tree_switch::is_drained;
 use version_chain::Chains;
 

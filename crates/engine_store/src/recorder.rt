@@ -8,8 +8,8 @@ use commit_journal::{BodyError, body_of};
 use engine_core::Engine;
 use epoch_store::{PrepareError, Recorder};
 use std::alloc::{AllocError, Global};
-use teb_history::History;
-use teb_names::{Cell, Reply, Request, Session};
+use teb_rules::history::History;
+use teb_rules::names::{Cell, Reply, Request, Session};
 use version_chain::Chains;
 
 /// An engine that tells the record of a commit before it makes it.

@@ -2,7 +2,7 @@
 
 ghost use Rattle.std.specs.Prelude.{◌≡◌, ◌↔◌, ◌+◌, ◌-◌, ◌<◌, ◌^◌, None, length, true, false, IsTrue, IfOk, IfErr, OnOk, IsErrOf, List, ℕ};
 ghost use Rattle.teb_io.specs.Faults.{Rose};
-ghost use Rattle.teb_names.specs.declared.Reply.TheVariants as replies;
+ghost use Rattle.teb_rules.specs.declared.names.Reply.TheVariants as replies;
 ghost use Rattle.teb_rules.specs.Answer.{answer};
 ghost use Rattle.teb_rules.specs.Ranks.{serial_order};
 ghost use Rattle.teb_rules.specs.Replay.{Values};
@@ -28,7 +28,7 @@ use engine_core::Engine;
 use epoch_store::{AskError, EpochStore};
 use std::alloc::Global;
 use std::marker::Model;
-use teb_names::{Reply, Request, Session};
+use teb_rules::names::{Reply, Request, Session};
 use tree_switch::is_drained;
 use version_chain::Chains;
 

@@ -1,7 +1,7 @@
 //! How commits that were taken are written.
 
 ghost use Rattle.std.specs.Prelude.{◌≡◌, ◌+◌, [], Ok, true, false, OnOk, OnErr, List, ℕ};
-ghost use Rattle.teb_history.specs.declared.Event.{Event};
+ghost use Rattle.teb_rules.specs.declared.history.Event.{Event};
 ghost use Rattle.teb_rules.specs.Setup.{Store};
 ghost use Rattle.crash_disk.specs.Calls.{IsUpTo};
 ghost use Rattle.crash_disk.specs.Disk.{LeavesOnly};

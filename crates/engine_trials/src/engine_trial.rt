@@ -11,7 +11,7 @@ use chain_pool::PooledChains;
 use engine_core::Engine;
 use std::alloc::{AllocError, Global};
 use std::fmt::Write;
-use teb_names::{Request, Session};
+use teb_rules::names::{Request, Session};
 use tree_toml::read_tree;
 use version_chain::Chains;
 

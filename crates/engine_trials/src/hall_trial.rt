@@ -1,7 +1,7 @@
 //! A hall that two sessions ask.
 
 ghost use Rattle.std.specs.Prelude.{◌≡◌, All, map};
-ghost use Rattle.teb_history.specs.Phases.{numbers};
+ghost use Rattle.teb_rules.specs.history.Phases.{numbers};
 ghost use Rattle.session_server.specs.Passes.{IsPassOf, IsNew, number_of};
 
 use crate::engine_trial::trial_engine;
@@ -16,7 +16,7 @@ use session_server::{AskError, Entries, Hall, Pass};
 use std::alloc::Global;
 use std::fmt::Write;
 use std::sync::Wait;
-use teb_names::{Request, SESSIONS, Txn};
+use teb_rules::names::{Request, SESSIONS, Txn};
 use version_chain::Chains;
 
 /// How many events precede the last of the requests.

@@ -19,7 +19,7 @@ use runtime_pipeline::Pipeline;
 use snapshot_node::Snapshot;
 use std::alloc::{AllocError, Global};
 use std::fmt::Write;
-use teb_names::{Cell, Txn};
+use teb_rules::names::{Cell, Txn};
 use timestamp_node::Stamps;
 use version_chain::Chains;
 

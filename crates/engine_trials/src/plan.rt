@@ -1,6 +1,6 @@
 //! The tree of the trials, and the requests.
 
-use teb_names::{Cell, Kind, Request, Session, Spot, Table};
+use teb_rules::names::{Cell, Kind, Request, Session, Spot, Table};
 
 /// A snapshot root over a leaf of locks, a pipeline and a leaf of timestamps.
 pub const TREE: &[u8] = br#"

@@ -3,7 +3,7 @@
 ghost use Rattle.std.specs.Prelude.{◌≡◌};
 
 use std::alloc::AllocError;
-use teb_names::{Cell, Txn};
+use teb_rules::names::{Cell, Txn};
 use version_chain::Chains;
 
 /// Versions that are kept in other chains, and refuse room at one call.

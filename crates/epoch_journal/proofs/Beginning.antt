@@ -1,8 +1,8 @@
 -- The first epoch after recovery.
 use Rattle.std.proofs.Common.{◌≡◌, inl, inr, ⊎_elim, ℕ, ◌+◌, ◌*◌, ◌<◌, ◌≤◌, List, [], ◌∷◌, length, take, sym, subst, ◌∙◌, ap}
 use Rattle.std.proofs.lemmas.List.{append-nil, length-take-le}
-use Rattle.teb_names.specs.declared.Cell.{Cell}
-use Rattle.teb_names.specs.Rows.{row_of, IsAscending}
+use Rattle.teb_rules.specs.declared.names.Cell.{Cell}
+use Rattle.teb_rules.specs.names.Rows.{row_of, IsAscending}
 use Rattle.teb_rules.specs.Replay.{Values}
 use Rattle.crash_disk.specs.Disk.{Only}
 use Rattle.record_journal.specs.Format.{Record}

@@ -4,11 +4,11 @@ use Rattle.std.specs.List.{list_all}
 use Rattle.std.specs.Ordering.{is_eq}
 use Rattle.std.proofs.lemmas.Bool.{and_parts}
 use Rattle.std.proofs.lemmas.List.{length-map}
-use Rattle.teb_names.specs.declared.Cell.{Cell}
-use Rattle.teb_names.specs.Cells.{same_cell, is_before}
-use Rattle.teb_names.specs.Rows.{row_of, is_ascending, IsAscending}
-use Rattle.teb_names.proofs.CellOrder.{same_cell-cell_cmp, before_less}
-use Rattle.teb_names.proofs.SameCells.{same_cell-true, same_itself, same_laws}
+use Rattle.teb_rules.specs.declared.names.Cell.{Cell}
+use Rattle.teb_rules.specs.names.Cells.{same_cell, is_before}
+use Rattle.teb_rules.specs.names.Rows.{row_of, is_ascending, IsAscending}
+use Rattle.teb_rules.proofs.lemmas.names.CellOrder.{same_cell-cell_cmp, before_less}
+use Rattle.teb_rules.proofs.lemmas.names.SameCells.{same_cell-true, same_itself, same_laws}
 use Rattle.teb_rules.specs.Replay.{Values, put_in}
 use Rattle.record_journal.specs.declared.change.Change.{Change}
 use Rattle.record_journal.specs.Format.{Record, body, records}

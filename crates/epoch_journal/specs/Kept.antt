@@ -1,7 +1,7 @@
 -- What a journal in epochs keeps: which records a crash may leave.
 use Rattle.std.specs.Prelude.{◌≡◌, ℕ, ◌≤◌, false, List, ◌∷◌, ◌++◌, length, take, ℤ}
-use Rattle.teb_names.specs.declared.Cell.{Cell}
-use Rattle.teb_names.specs.Rows.{row_of}
+use Rattle.teb_rules.specs.declared.names.Cell.{Cell}
+use Rattle.teb_rules.specs.names.Rows.{row_of}
 use Rattle.teb_rules.specs.Replay.{Values}
 use Rattle.crash_disk.specs.Disk.{Only}
 use Rattle.record_journal.specs.Format.{Record}

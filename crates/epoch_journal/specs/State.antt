@@ -1,6 +1,6 @@
 -- What contracts see of a journal in epochs, and of a disk that was read.
 use Rattle.std.specs.Prelude.{ℕ, Bool, List, ℤ}
-use Rattle.teb_names.specs.declared.Cell.{Cell}
+use Rattle.teb_rules.specs.declared.names.Cell.{Cell}
 use Rattle.epoch_journal.specs.declared.current.Current.{Current}
 use Rattle.epoch_journal.specs.Layout.{Layout}
 

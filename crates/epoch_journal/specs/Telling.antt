@@ -1,6 +1,6 @@
 -- The table that a disk stands for, and how much of a list of records that is.
 use Rattle.std.specs.Prelude.{◌≡◌, ℕ, ◌≤◌, List, [], ◌∷◌, ◌++◌, length, take, Some, None, ℤ}
-use Rattle.teb_names.specs.declared.Cell.{Cell}
+use Rattle.teb_rules.specs.declared.names.Cell.{Cell}
 use Rattle.teb_rules.specs.Replay.{Values}
 use Rattle.record_journal.specs.Format.{Record}
 use Rattle.record_journal.specs.Journal.{after_records}

@@ -2,7 +2,7 @@
 
 ghost use Rattle.std.specs.Prelude.{◌≡◌, ◌⊎◌, ◌+◌, ◌*◌, ◌-◌, ◌<◌, ◌≤◌, ◌^◌, ◌∷◌, [], List, ℕ, length, take, true, false, not, IfOk, OnOk, IfErr, IsErrOf};
 ghost use Rattle.teb_io.specs.Faults.{HasCause, Rose};
-ghost use Rattle.teb_names.specs.Rows.{row_of};
+ghost use Rattle.teb_rules.specs.names.Rows.{row_of};
 ghost use Rattle.teb_rules.specs.Replay.{Values};
 ghost use Rattle.crash_disk.specs.Calls.{IsUpTo};
 ghost use Rattle.crash_disk.specs.Disk.{IsQuiet, LeavesOnly, Only};
@@ -25,7 +25,7 @@ use crate::steps::switch_halves;
 use crash_disk::Disk;
 use std::alloc::Global;
 use teb_io::Failed;
-use teb_names::Cell;
+use teb_rules::names::Cell;
 
 impl<D: Disk> RecoveredDisk<D> {
     /// Begins an epoch with the rows that were read, in the half that is not current, and answers the rows. It makes four calls of the

@@ -2,8 +2,8 @@
 
 ghost use Rattle.std.specs.Prelude.{◌≡◌, ◌+◌, ◌*◌, ◌<◌, ◌≤◌, [], List, ℕ, length, true, false, not, IfOk, OnOk, OnErr, IfErr, IsErrOf};
 ghost use Rattle.teb_io.specs.Faults.{Rose};
-ghost use Rattle.teb_names.specs.declared.Cell.{Cell as TheCell};
-ghost use Rattle.teb_names.specs.Rows.{row_of};
+ghost use Rattle.teb_rules.specs.declared.names.Cell.{Cell as TheCell};
+ghost use Rattle.teb_rules.specs.names.Rows.{row_of};
 ghost use Rattle.teb_rules.specs.Replay.{Values};
 ghost use Rattle.crash_disk.specs.Calls.{IsUpTo};
 ghost use Rattle.crash_disk.specs.Disk.{LeavesOnly};
@@ -23,7 +23,7 @@ use crate::steps::switch_halves;
 use crash_disk::{Disk, Memory};
 use std::alloc::{AllocError, Global};
 use teb_io::Failed;
-use teb_names::Cell;
+use teb_rules::names::Cell;
 
 impl<D: Disk> EpochJournal<D> {
     /// Ends the present epoch and begins the next one, with the rows that all records have left. Its records have the other half of the

@@ -2,8 +2,8 @@
 
 ghost use Rattle.std.specs.Prelude.{◌≡◌, ◌+◌, ◌*◌, ◌<◌, ◌≤◌, [], List, ℕ, length, take, false, IfOk, IfErr};
 ghost use Rattle.teb_io.specs.Faults.{Rose};
-ghost use Rattle.teb_names.specs.declared.Cell.{Cell as TheCell};
-ghost use Rattle.teb_names.specs.Rows.{row_of, IsAscending};
+ghost use Rattle.teb_rules.specs.declared.names.Cell.{Cell as TheCell};
+ghost use Rattle.teb_rules.specs.names.Rows.{row_of, IsAscending};
 ghost use Rattle.teb_rules.specs.Replay.{Values};
 ghost use Rattle.crash_disk.specs.Calls.{IsUpTo};
 ghost use Rattle.crash_disk.specs.Disk.{IsQuiet, LeavesOnly};
@@ -19,7 +19,7 @@ use crate::journal::EpochJournal;
 use crate::recovered::{NotOpened, RecoveredDisk};
 use crash_disk::Disk;
 use std::alloc::Global;
-use teb_names::Cell;
+use teb_rules::names::Cell;
 
 impl<D: Disk> EpochJournal<D> {
     /// Opens what a disk has under a label, or begins on an empty disk, which takes this label and whose table is that of the starting

@@ -10,7 +10,7 @@ use crate::error::CheckpointError;
 use crate::layout::{COMMIT_MARK, LENGTH_BYTES, half_bytes, header_of};
 use record_journal::{CHANGE_BYTES, Change, FRAME_BYTES, encode};
 use std::alloc::{AllocError, Global};
-use teb_names::Cell;
+use teb_rules::names::Cell;
 
 /// Returns the bytes of a half that has a checkpoint of the rows alone.
 ///

@@ -9,7 +9,7 @@ use crate::error::OpenError;
 use crate::layout::base;
 use crash_disk::Disk;
 use std::marker::Model;
-use teb_names::Cell;
+use teb_rules::names::Cell;
 
 /// A disk whose rows were read, and to which nothing was written yet.
 #[derive(Drop)]
@@ -23,7 +23,7 @@ pub struct RecoveredDisk<D: Disk> {
 
 impl<D: Disk> Model for RecoveredDisk<D> {
     ghost use Rattle.std.specs.Prelude.{◌≡◌, ◌+◌, ◌<◌, ◌≤◌, ◌^◌, length};
-    ghost use Rattle.teb_names.specs.Rows.{IsAscending};
+    ghost use Rattle.teb_rules.specs.names.Rows.{IsAscending};
     ghost use Rattle.epoch_journal.specs.Layout.{half_size, layout};
     ghost use Rattle.epoch_journal.specs.State.{RecoveredState};
 

@@ -2,8 +2,8 @@
 
 ghost use Rattle.std.specs.Prelude.{◌≡◌, ◌+◌, ◌*◌, ◌<◌, ◌≤◌, ◌^◌, [], List, ℕ, length, true, false, IfOk, OnOk, IfErr, IsErrOf};
 ghost use Rattle.teb_io.specs.Faults.{HasCause, Rose};
-ghost use Rattle.teb_names.specs.declared.Cell.{Cell as TheCell};
-ghost use Rattle.teb_names.specs.Rows.{row_of, IsAscending};
+ghost use Rattle.teb_rules.specs.declared.names.Cell.{Cell as TheCell};
+ghost use Rattle.teb_rules.specs.names.Rows.{row_of, IsAscending};
 ghost use Rattle.teb_rules.specs.Replay.{Values};
 ghost use Rattle.crash_disk.specs.Calls.{IsUpTo};
 ghost use Rattle.crash_disk.specs.Disk.{IsQuiet, Only};
@@ -24,7 +24,7 @@ use crash_disk::Disk;
 use record_journal::FRAME_BYTES;
 use std::alloc::Global;
 use teb_io::Failed;
-use teb_names::Cell;
+use teb_rules::names::Cell;
 
 impl<D: Disk> RecoveredDisk<D> {
     /// Reads the rows that a disk stands for under a label, over some starting rows, of which the first of a cell counts. It makes all of

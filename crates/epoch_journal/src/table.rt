@@ -1,14 +1,14 @@
 //! The table that records stand for.
 
 ghost use Rattle.std.specs.Prelude.{◌≡◌, IfOk};
-ghost use Rattle.teb_names.specs.declared.Cell.{Cell as TheCell};
-ghost use Rattle.teb_names.specs.Rows.{row_of, IsAscending};
+ghost use Rattle.teb_rules.specs.declared.names.Cell.{Cell as TheCell};
+ghost use Rattle.teb_rules.specs.names.Rows.{row_of, IsAscending};
 ghost use Rattle.record_journal.specs.Views.{record_lists};
 ghost use Rattle.epoch_journal.specs.Telling.{table_of};
 
 use record_journal::{Change, rows_after};
 use std::alloc::{AllocError, Global};
-use teb_names::Cell;
+use teb_rules::names::Cell;
 
 /// Returns the rows after some records, of which the first is a checkpoint; the starting rows if there is none. They ascend.
 pub(crate) fn table_after(

@@ -2,7 +2,7 @@
 use Rattle.std.proofs.Common.{◌≡◌, ◌+◌, ◌<◌, ◌≤◌, ℕ, true, false, List, [], ◌∷◌, ◌++◌, length, Option, Some, None, Result, Ok, Err, sym, ◌∙◌, ap, subst, arith, append_assoc, length-append}
 use Rattle.std.specs.Prelude.{OnOk, OnErr}
 use Rattle.std.proofs.lemmas.List.{append-nil}
-use Rattle.teb_names.specs.Rows.{row_of}
+use Rattle.teb_rules.specs.names.Rows.{row_of}
 use Rattle.teb_rules.specs.Setup.{Store}
 use Rattle.teb_rules.specs.Replay.{Values}
 use Rattle.crash_disk.specs.Disk.{LeavesOnly}

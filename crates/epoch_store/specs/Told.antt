@@ -1,8 +1,8 @@
 -- What became of a request.
 use Rattle.std.specs.Prelude.{◌≡◌, ℕ, ◌+◌, List, Option, Some, None, Result, Ok, Err}
-use Rattle.teb_names.specs.declared.Reply.{Reply}
-use Rattle.teb_names.specs.declared.Reply.TheVariants.{Committed}
-use Rattle.teb_history.specs.declared.Event.{Event}
+use Rattle.teb_rules.specs.declared.names.Reply.{Reply}
+use Rattle.teb_rules.specs.declared.names.Reply.TheVariants.{Committed}
+use Rattle.teb_rules.specs.declared.history.Event.{Event}
 use Rattle.epoch_store.specs.declared.recorder.PrepareError.{PrepareError}
 use Rattle.epoch_store.specs.declared.recorder.PrepareError.TheVariants as prepare
 use Rattle.epoch_store.specs.declared.error.AskError.{AskError}

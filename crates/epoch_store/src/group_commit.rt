@@ -2,8 +2,8 @@
 
 ghost use Rattle.std.specs.Prelude.{◌≡◌, ◌⊎◌, ◌+◌, ◌-◌, ◌<◌, ◌≤◌, ◌^◌, ◌++◌, ◌∷◌, [], length, Ok, None, false, true, IfOk, IfErr, OnOk, OnErr, IsErrOf, List, ℕ};
 ghost use Rattle.teb_io.specs.Faults.{Rose};
-ghost use Rattle.teb_names.specs.declared.Reply.TheVariants as replies;
-ghost use Rattle.teb_names.specs.Rows.{row_of};
+ghost use Rattle.teb_rules.specs.declared.names.Reply.TheVariants as replies;
+ghost use Rattle.teb_rules.specs.names.Rows.{row_of};
 ghost use Rattle.teb_rules.specs.Answer.{answer};
 ghost use Rattle.crash_disk.specs.Calls.{AreCalls};
 ghost use Rattle.crash_disk.specs.Disk.{LeavesOnly};
@@ -23,7 +23,7 @@ use epoch_journal::{EpochJournal, Group};
 use std::alloc::Global;
 use std::marker::Model;
 use teb_io::Failed;
-use teb_names::{Reply, Request, Session};
+use teb_rules::names::{Reply, Request, Session};
 
 /// A store whose commits wait for the disk together. `ask` answers a commit before it is on the disk; `sync` writes all commits that wait,
 /// in the calls of the disk that one commit takes, and only after its `Ok` may a commit be told to its client. Until then a crash
@@ -38,7 +38,7 @@ pub struct GroupCommit<E: Recorder, D: Disk> {
 }
 
 impl<E: Recorder, D: Disk> Model for GroupCommit<E, D> {
-    ghost use Rattle.teb_names.specs.Rows.{row_of};
+    ghost use Rattle.teb_rules.specs.names.Rows.{row_of};
     ghost use Rattle.epoch_store.specs.Gathering.{Gathering, Gathers};
 
     ghost Value = { Gathering E D };

@@ -2,9 +2,9 @@
 
 ghost use Rattle.std.specs.Prelude.{◌≡◌, ◌⊎◌, ◌+◌, ◌*◌, ◌<◌, ◌≤◌, ◌^◌, ◌++◌, ◌∷◌, [], length, None, true, false, IfOk, IfErr, OnOk, OnErr, IsErrOf, List, ℕ};
 ghost use Rattle.teb_io.specs.Faults.{Rose};
-ghost use Rattle.teb_names.specs.declared.Cell.{Cell as TheCell};
-ghost use Rattle.teb_names.specs.declared.Reply.TheVariants as replies;
-ghost use Rattle.teb_names.specs.Rows.{row_of};
+ghost use Rattle.teb_rules.specs.declared.names.Cell.{Cell as TheCell};
+ghost use Rattle.teb_rules.specs.declared.names.Reply.TheVariants as replies;
+ghost use Rattle.teb_rules.specs.names.Rows.{row_of};
 ghost use Rattle.teb_rules.specs.Answer.{answer};
 ghost use Rattle.teb_rules.specs.Replay.{Values};
 ghost use Rattle.crash_disk.specs.Disk.{LeavesOnly};
@@ -26,7 +26,7 @@ use epoch_journal::{EpochJournal, Group};
 use std::alloc::Global;
 use std::marker::Model;
 use std::mem;
-use teb_names::{Reply, Request, Session};
+use teb_rules::names::{Reply, Request, Session};
 
 /// An engine with the records of its commits that wait for a journal. It knows how many bytes of the journal's half are left, and
 /// nothing else of the journal, which may be written at the same time. Contracts see the engine, the records that wait, and the

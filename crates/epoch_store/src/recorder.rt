@@ -1,20 +1,20 @@
 //! What an epoch store asks of the engine that it keeps.
 
 ghost use Rattle.std.specs.Prelude.{◌≡◌, ◌+◌, ◌≤◌, ◌^◌, ◌++◌, ◌∷◌, [], Bool, List, ℕ, length, true, IsTrue, IfOk, OnOk, OnErr, IsErrOf};
-ghost use Rattle.teb_names.specs.declared.Session.{Session as TheSession};
-ghost use Rattle.teb_names.specs.declared.Request.{Request as TheRequest};
-ghost use Rattle.teb_names.specs.declared.Reply.TheVariants as replies;
-ghost use Rattle.teb_names.specs.declared.naming.NameBook.{NameBook as TheNames};
-ghost use Rattle.teb_history.specs.declared.Event.{Event};
+ghost use Rattle.teb_rules.specs.declared.names.Session.{Session as TheSession};
+ghost use Rattle.teb_rules.specs.declared.names.Request.{Request as TheRequest};
+ghost use Rattle.teb_rules.specs.declared.names.Reply.TheVariants as replies;
+ghost use Rattle.teb_rules.specs.declared.names.naming.NameBook.{NameBook as TheNames};
+ghost use Rattle.teb_rules.specs.declared.history.Event.{Event};
 ghost use Rattle.teb_rules.specs.Setup.{Store};
 ghost use Rattle.teb_rules.specs.Answer.{answer};
-ghost use Rattle.teb_laws.specs.Lawful.{Lawful};
+ghost use Rattle.teb_rules.specs.laws.Lawful.{Lawful};
 ghost use Rattle.record_journal.specs.Format.{Record};
 ghost use Rattle.record_journal.specs.Journal.{IsBody};
 
 use std::alloc::{AllocError, Global};
-use teb_history::History;
-use teb_names::{Cell, Reply, Request, Session};
+use teb_rules::history::History;
+use teb_rules::names::{Cell, Reply, Request, Session};
 
 /// Why there is no record of a commit.
 #[derive(Clone, Copy, Debug, PartialEq, Eq)]

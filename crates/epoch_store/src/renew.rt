@@ -1,7 +1,7 @@
 //! How a store forgets the calls of its disk.
 
 ghost use Rattle.std.specs.Prelude.{◌≡◌, List, ℕ, IfOk, IfErr};
-ghost use Rattle.teb_names.specs.Rows.{row_of};
+ghost use Rattle.teb_rules.specs.names.Rows.{row_of};
 ghost use Rattle.epoch_journal.specs.Telling.{TellsOn};
 
 use crate::recorder::Recorder;

@@ -2,9 +2,9 @@
 
 ghost use Rattle.std.specs.Prelude.{◌≡◌, ◌⊎◌, ◌+◌, ◌-◌, ◌*◌, ◌<◌, ◌≤◌, ◌^◌, [], length, Some, None, true, false, IsTrue, IfOk, IfErr, OnOk, OnErr, IsErrOf, List, ℕ};
 ghost use Rattle.teb_io.specs.Faults.{Rose};
-ghost use Rattle.teb_names.specs.declared.Cell.{Cell as TheCell};
-ghost use Rattle.teb_names.specs.declared.Reply.TheVariants as replies;
-ghost use Rattle.teb_names.specs.Rows.{row_of};
+ghost use Rattle.teb_rules.specs.declared.names.Cell.{Cell as TheCell};
+ghost use Rattle.teb_rules.specs.declared.names.Reply.TheVariants as replies;
+ghost use Rattle.teb_rules.specs.names.Rows.{row_of};
 ghost use Rattle.teb_rules.specs.Answer.{answer};
 ghost use Rattle.teb_rules.specs.Replay.{Values};
 ghost use Rattle.crash_disk.specs.Calls.{IsUpTo};
@@ -27,7 +27,7 @@ use std::alloc::Global;
 use std::marker::Model;
 use std::mem;
 use teb_io::Failed;
-use teb_names::{Reply, Request, Session};
+use teb_rules::names::{Reply, Request, Session};
 
 /// No record has more bytes, since it counts its changes in four.
 pub(crate) const MOST_LEFT: u64 = 4_294_967_295;
@@ -41,7 +41,7 @@ pub struct EpochStore<E: Recorder, D: Disk> {
 }
 
 impl<E: Recorder, D: Disk> Model for EpochStore<E, D> {
-    ghost use Rattle.teb_names.specs.Rows.{row_of};
+    ghost use Rattle.teb_rules.specs.names.Rows.{row_of};
     ghost use Rattle.epoch_journal.specs.Kept.{Keeps};
     ghost use Rattle.epoch_store.specs.Stored.{Stored};
 

@@ -5,7 +5,7 @@ use epoch_journal::EpochJournal;
 use record_journal::{Change, encode};
 use std::alloc::{AllocError, Global};
 use std::test::Fail;
-use teb_names::{Cell, Table};
+use teb_rules::names::{Cell, Table};
 
 /// How many bytes each disk can hold. A half has 150 bytes.
 pub const CAPACITY: u64 = 313;

@@ -7,7 +7,7 @@ use record_journal::RecoverError;
 use std::alloc::Global;
 use std::fs;
 use std::test::Fail;
-use teb_names::{Cell, Kind, Request, Session, Spot, Table};
+use teb_rules::names::{Cell, Kind, Request, Session, Spot, Table};
 use tree_toml::read_tree;
 use version_chain::PlainChains;
 

@@ -2,7 +2,7 @@
 
 use record_journal::{Change, encode};
 use std::test::Fail;
-use teb_names::{Cell, Table};
+use teb_rules::names::{Cell, Table};
 
 #[test]
 fn a_record_has_these_bytes(rt: HostRuntime) -> Result<(), Fail> {

@@ -1,7 +1,7 @@
 -- A finish as the word of a note, and what a seat knows of a transaction.
 use Rattle.std.specs.Prelude.{ℕ, zero, suc, ◌-◌, slice_index}
-use Rattle.teb_names.specs.declared.Outcome.{Outcome}
-use Rattle.teb_names.specs.declared.Outcome.TheVariants.{Committed, Aborted}
+use Rattle.teb_rules.specs.declared.names.Outcome.{Outcome}
+use Rattle.teb_rules.specs.declared.names.Outcome.TheVariants.{Committed, Aborted}
 use Rattle.finish_board.specs.declared.answer.Poll.{Poll}
 use Rattle.finish_board.specs.declared.answer.Poll.TheVariants.{Unfinished, Finished}
 use Rattle.turn_lock.specs.declared.view.View.{View}

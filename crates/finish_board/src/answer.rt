@@ -1,5 +1,5 @@
 //! The result of a poll.
-use teb_names::Outcome;
+use teb_rules::names::Outcome;
 
 /// Whether a transaction has finished, as one look shows.
 #[derive(Clone, Copy, Debug, PartialEq, Eq)]

@@ -6,7 +6,7 @@ ghost use Rattle.turn_lock.specs.Views.{published, looked_at};
 ghost use Rattle.turn_lock.specs.Seats.{note_count, view_of, slot_of, IsOf, IsInside};
 
 use crate::answer::Poll;
-use teb_names::{MOST_TXNS, Outcome, Txn};
+use teb_rules::names::{MOST_TXNS, Outcome, Txn};
 use turn_lock::{Member, SeatOf, Turn};
 
 /// Publishes how a transaction finished, as the word 1 for committed and 2 for aborted.

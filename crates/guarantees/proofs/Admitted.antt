@@ -1,17 +1,17 @@
 -- No transaction began while a node told it to wait; so if the root is a leaf or admits one transaction per batch, each found its side idle.
 use Rattle.std.proofs.Common.{◌≡◌, ◌≢◌, ◌⊎◌, ℕ, suc, ◌+◌, fold, ◌<◌, ◌≤◌, Bool, true, false, not, cond, ◌&&◌, ◌||◌, eqb, ltb, leb, List, [], ◌∷◌, length, find, filter, count_by, Option, Some, None, refl, sym, ◌∙◌, ap, subst, inl, inr, arith, le_refl, lt-ltb, le-ltb, leb-true, le-leb, eq-eqb, ne_eqb}
 use Rattle.std.proofs.lemmas.Bool.{and_from, or_cases, both_ways, cases_Bool, cases_lt, not_from_false}
-use Rattle.teb_names.specs.declared.Kind.{Kind}
-use Rattle.teb_names.specs.declared.Session.{Session}
-use Rattle.teb_names.specs.declared.Spot.{Spot}
-use Rattle.teb_names.specs.declared.Txn.{Txn}
-use Rattle.teb_names.specs.declared.Cause.{Cause}
-use Rattle.teb_names.specs.declared.ControlKind.{ControlKind}
-use Rattle.teb_names.specs.declared.ControlKind.TheVariants.{Locks, Pipeline, Timestamp, Snapshot}
-use Rattle.teb_history.specs.declared.Event.{Event}
-use Rattle.teb_history.specs.declared.Event.TheVariants.{Began, Got, Put, Ready, Done, Gone, Told}
-use Rattle.teb_history.specs.Positions.{upto}
-use Rattle.teb_history.specs.Phases.{began_at, is_began, spot_of, txns, unfinished}
+use Rattle.teb_rules.specs.declared.names.Kind.{Kind}
+use Rattle.teb_rules.specs.declared.names.Session.{Session}
+use Rattle.teb_rules.specs.declared.names.Spot.{Spot}
+use Rattle.teb_rules.specs.declared.names.Txn.{Txn}
+use Rattle.teb_rules.specs.declared.names.Cause.{Cause}
+use Rattle.teb_rules.specs.declared.names.ControlKind.{ControlKind}
+use Rattle.teb_rules.specs.declared.names.ControlKind.TheVariants.{Locks, Pipeline, Timestamp, Snapshot}
+use Rattle.teb_rules.specs.declared.history.Event.{Event}
+use Rattle.teb_rules.specs.declared.history.Event.TheVariants.{Began, Got, Put, Ready, Done, Gone, Told}
+use Rattle.teb_rules.specs.history.Positions.{upto}
+use Rattle.teb_rules.specs.history.Phases.{began_at, is_began, spot_of, txns, unfinished}
 use Rattle.teb_rules.specs.declared.Stop.TheVariants.{Wait as Waits}
 use Rattle.teb_rules.specs.declared.Verdict.{Verdict}
 use Rattle.teb_rules.specs.declared.Verdict.TheVariants.{Go, Wait}
@@ -23,15 +23,15 @@ use Rattle.teb_rules.specs.Batches.{start}
 use Rattle.teb_rules.specs.Serializes.{In}
 use Rattle.teb_rules.specs.Stops.{begin_stop, on_begin, stop_of, stop_with}
 use Rattle.teb_rules.specs.Cascade.{abort, cascade, fall_in_turn, txn}
-use Rattle.teb_laws.specs.Lawful.{Lawful}
-use Rattle.teb_laws.specs.TreeFacts.{TreeFacts}
-use Rattle.teb_laws.proofs.Batches.{idle_from}
-use Rattle.teb_laws.proofs.Locks.{In-txns, find_none}
-use Rattle.teb_laws.proofs.Meeting.{Linked, Rooted, end_is, path_good}
-use Rattle.teb_laws.proofs.Serial.{In-filter, end_of, path_leaf}
-use Rattle.teb_laws.proofs.Nodes.{front_of}
-use Rattle.teb_laws.proofs.Timeline.{event_first, kind-lt, spot-upto, on-upto, side-upto, Lawful-upto, begun_there, upto-unfinished}
-use Rattle.teb_laws.proofs.Waits.{node}
+use Rattle.teb_rules.specs.laws.Lawful.{Lawful}
+use Rattle.teb_rules.specs.laws.TreeFacts.{TreeFacts}
+use Rattle.teb_rules.proofs.lemmas.laws.Batches.{idle_from}
+use Rattle.teb_rules.proofs.lemmas.laws.Locks.{In-txns, find_none}
+use Rattle.teb_rules.proofs.lemmas.laws.Meeting.{Linked, Rooted, end_is, path_good}
+use Rattle.teb_rules.proofs.lemmas.laws.Serial.{In-filter, end_of, path_leaf}
+use Rattle.teb_rules.proofs.lemmas.laws.Nodes.{front_of}
+use Rattle.teb_rules.proofs.lemmas.laws.Timeline.{event_first, kind-lt, spot-upto, on-upto, side-upto, Lawful-upto, begun_there, upto-unfinished}
+use Rattle.teb_rules.proofs.lemmas.laws.Waits.{node}
 use Rattle.guarantees.specs.Shapes.{keeps_time, orders_by_commits}
 use Rattle.guarantees.proofs.Following.{Keeps, is_plain}
 use Rattle.guarantees.proofs.Strict.{BeginsIdle}

@@ -2,31 +2,31 @@
 use Rattle.std.proofs.Common.{◌≡◌, ◌≢◌, ◌⊎◌, ℕ, ◌<◌, Bool, true, false, ◌&&◌, ◌||◌, eqb, List, [], ◌∷◌, find, Option, Some, None, unwrap_or, refl, sym, ◌∙◌, ap, subst, inl, inr, arith, ltb-true, eqb-true, eq-eqb, ne_eqb}
 use Rattle.std.proofs.lemmas.Bool.{and_from, and_parts, or_cases, or_left, or_right, both_ways, cases_eq, not-true, eqb-false}
 use Rattle.std.specs.List.{list_any}
-use Rattle.teb_names.proofs.SameCells.{same_itself}
-use Rattle.teb_names.specs.declared.Cell.{Cell}
-use Rattle.teb_names.specs.declared.Txn.{Txn}
-use Rattle.teb_names.specs.declared.Cause.{Cause}
-use Rattle.teb_names.specs.declared.Cause.TheVariants.{After}
-use Rattle.teb_history.specs.declared.Event.{Event}
-use Rattle.teb_history.specs.declared.Event.TheVariants.{Began, Got, Put, Ready, Done, Gone, Told}
-use Rattle.teb_history.specs.Phases.{aborted, cause_of, is_after, is_gone, txns, unfinished}
-use Rattle.teb_history.specs.Accesses.{is_from, is_put, read_from, wrote}
-use Rattle.teb_history.proofs.Newest.{aborted-cons, wrote-cons}
+use Rattle.teb_rules.proofs.lemmas.names.SameCells.{same_itself}
+use Rattle.teb_rules.specs.declared.names.Cell.{Cell}
+use Rattle.teb_rules.specs.declared.names.Txn.{Txn}
+use Rattle.teb_rules.specs.declared.names.Cause.{Cause}
+use Rattle.teb_rules.specs.declared.names.Cause.TheVariants.{After}
+use Rattle.teb_rules.specs.declared.history.Event.{Event}
+use Rattle.teb_rules.specs.declared.history.Event.TheVariants.{Began, Got, Put, Ready, Done, Gone, Told}
+use Rattle.teb_rules.specs.history.Phases.{aborted, cause_of, is_after, is_gone, txns, unfinished}
+use Rattle.teb_rules.specs.history.Accesses.{is_from, is_put, read_from, wrote}
+use Rattle.teb_rules.proofs.lemmas.history.Newest.{aborted-cons, wrote-cons}
 use Rattle.teb_rules.specs.Setup.{Setup, Store}
 use Rattle.teb_rules.specs.Versions.{sees}
 use Rattle.teb_rules.specs.Cascade.{abort, blamed, cascade, fall_in_turn, txn}
 use Rattle.teb_rules.specs.Serializes.{In}
-use Rattle.teb_laws.specs.Lawful.{Granted, Lawful}
-use Rattle.teb_laws.specs.Laws.{is_read}
-use Rattle.teb_laws.proofs.Answers.{Good}
-use Rattle.teb_laws.proofs.Cascades.{cascade-In, falls_parts, unfinished_times}
-use Rattle.teb_laws.proofs.Intervals.{gone_order}
-use Rattle.teb_laws.proofs.Lists.{list_any_In, list_any_from}
-use Rattle.teb_laws.proofs.Locks.{In-txns, find_none}
-use Rattle.teb_laws.proofs.Pigeons.{In_or_not}
-use Rattle.teb_laws.proofs.ReadRule.{find_some, from_own, from_row, from_seen, latest-some, read_case, sees_parts}
-use Rattle.teb_laws.proofs.Serial.{filter-In}
-use Rattle.teb_laws.proofs.Timeline.{begun_counted}
+use Rattle.teb_rules.specs.laws.Lawful.{Granted, Lawful}
+use Rattle.teb_rules.specs.laws.Laws.{is_read}
+use Rattle.teb_rules.proofs.lemmas.laws.Answers.{Good}
+use Rattle.teb_rules.proofs.lemmas.laws.Cascades.{cascade-In, falls_parts, unfinished_times}
+use Rattle.teb_rules.proofs.lemmas.laws.Intervals.{gone_order}
+use Rattle.teb_rules.proofs.lemmas.laws.Lists.{list_any_In, list_any_from}
+use Rattle.teb_rules.proofs.lemmas.laws.Locks.{In-txns, find_none}
+use Rattle.teb_rules.proofs.lemmas.laws.Pigeons.{In_or_not}
+use Rattle.teb_rules.proofs.lemmas.laws.ReadRule.{find_some, from_own, from_row, from_seen, latest-some, read_case, sees_parts}
+use Rattle.teb_rules.proofs.lemmas.laws.Serial.{filter-In}
+use Rattle.teb_rules.proofs.lemmas.laws.Timeline.{begun_counted}
 use Rattle.guarantees.specs.Causes.{IsAfter}
 use Rattle.guarantees.proofs.Following.{Keeps, is_plain}
 

@@ -1,20 +1,20 @@
 -- A property that every answer keeps holds in every run.
 use Rattle.std.proofs.Common.{◌≡◌, ℕ, suc, Bool, true, false, cond, not, ◌&&◌, ltb, leb, List, [], ◌∷◌, Option, Some, None, is_none, refl, ℤ, ◌+ℤ◌}
-use Rattle.teb_names.specs.declared.TheConstants.{MOST_TXNS, SESSIONS}
-use Rattle.teb_names.specs.declared.Cell.{Cell}
-use Rattle.teb_names.specs.declared.Spot.{Spot}
-use Rattle.teb_names.specs.declared.Node.{Node}
-use Rattle.teb_names.specs.declared.Session.{Session}
-use Rattle.teb_names.specs.declared.Cause.{Cause}
-use Rattle.teb_names.specs.declared.Cause.TheVariants.{Newer, Asked, Ended}
-use Rattle.teb_names.specs.declared.Request.{Request}
-use Rattle.teb_names.specs.declared.Request.TheVariants.{Begin, Read, Write, Add, Delete, Scan, Prepare, Commit, Abort, End}
-use Rattle.teb_names.specs.declared.Refusal.TheVariants.{UnknownType, Full, UnknownTable, NotInProfile, Overflow, Range, BadSession}
-use Rattle.teb_names.specs.declared.Refusal.TheVariants.{Prepared as IsPrepared}
-use Rattle.teb_names.specs.declared.Reply.TheVariants.{Aborted, Again, Prepared}
-use Rattle.teb_history.specs.declared.Event.{Event}
-use Rattle.teb_history.specs.declared.Event.TheVariants.{Began, Got, Put, Ready, Done, Gone, Told}
-use Rattle.teb_history.specs.Phases.{aborted, begun_count, cause_of, held, is_after, kind_of, prepared, unfinished}
+use Rattle.teb_rules.specs.declared.names.TheConstants.{MOST_TXNS, SESSIONS}
+use Rattle.teb_rules.specs.declared.names.Cell.{Cell}
+use Rattle.teb_rules.specs.declared.names.Spot.{Spot}
+use Rattle.teb_rules.specs.declared.names.Node.{Node}
+use Rattle.teb_rules.specs.declared.names.Session.{Session}
+use Rattle.teb_rules.specs.declared.names.Cause.{Cause}
+use Rattle.teb_rules.specs.declared.names.Cause.TheVariants.{Newer, Asked, Ended}
+use Rattle.teb_rules.specs.declared.names.Request.{Request}
+use Rattle.teb_rules.specs.declared.names.Request.TheVariants.{Begin, Read, Write, Add, Delete, Scan, Prepare, Commit, Abort, End}
+use Rattle.teb_rules.specs.declared.names.Refusal.TheVariants.{UnknownType, Full, UnknownTable, NotInProfile, Overflow, Range, BadSession}
+use Rattle.teb_rules.specs.declared.names.Refusal.TheVariants.{Prepared as IsPrepared}
+use Rattle.teb_rules.specs.declared.names.Reply.TheVariants.{Aborted, Again, Prepared}
+use Rattle.teb_rules.specs.declared.history.Event.{Event}
+use Rattle.teb_rules.specs.declared.history.Event.TheVariants.{Began, Got, Put, Ready, Done, Gone, Told}
+use Rattle.teb_rules.specs.history.Phases.{aborted, begun_count, cause_of, held, is_after, kind_of, prepared, unfinished}
 use Rattle.teb_rules.specs.Setup.{Store, profile}
 use Rattle.teb_rules.specs.Accepted.{IsSound}
 use Rattle.teb_rules.specs.Steps.{cursor, least_step}
@@ -29,12 +29,12 @@ use Rattle.teb_rules.specs.Cascade.{abort, txn}
 use Rattle.teb_rules.specs.Answer.{Answered, added, answer, answer_new, answer_of, answer_to, begin_or_wait, broken_off, cells_from, fits, is_scan, or_refused, or_stop, put_value, read_all, refuse, scan_values}
 use Rattle.teb_rules.specs.Run.{history_after}
 use Rattle.std.proofs.Common.{unwrap_or}
-use Rattle.teb_laws.specs.Laws.{reached}
-use Rattle.teb_laws.proofs.Answers.{Good}
-use Rattle.teb_laws.proofs.Reachable.{answer_good, empty_good, untold_gone}
-use Rattle.teb_laws.proofs.Holding.{held_holds, holds_cases}
-use Rattle.teb_laws.proofs.Sound.{tree_facts}
-use Rattle.teb_laws.proofs.Waits.{node}
+use Rattle.teb_rules.specs.laws.Laws.{reached}
+use Rattle.teb_rules.proofs.lemmas.laws.Answers.{Good}
+use Rattle.teb_rules.proofs.lemmas.laws.Reachable.{answer_good, empty_good, untold_gone}
+use Rattle.teb_rules.proofs.lemmas.laws.Holding.{held_holds, holds_cases}
+use Rattle.teb_rules.proofs.lemmas.laws.Sound.{tree_facts}
+use Rattle.teb_rules.proofs.lemmas.laws.Waits.{node}
 use Rattle.std.proofs.lemmas.Bool.{both_ways}
 use Rattle.std.proofs.Common.{inl, inr}
 

@@ -1,18 +1,18 @@
 -- The guarantees hold for every run.
 use Rattle.std.proofs.Common.{List, []}
 use Rattle.std.proofs.lemmas.Bool.{both_ways}
-use Rattle.teb_names.specs.declared.Session.{Session}
-use Rattle.teb_names.specs.declared.Request.{Request}
-use Rattle.teb_history.specs.declared.Event.{Event}
+use Rattle.teb_rules.specs.declared.names.Session.{Session}
+use Rattle.teb_rules.specs.declared.names.Request.{Request}
+use Rattle.teb_rules.specs.declared.history.Event.{Event}
 use Rattle.teb_rules.specs.Setup.{Store}
 use Rattle.teb_rules.specs.Accepted.{IsSound}
 use Rattle.teb_rules.specs.Answer.{answer}
-use Rattle.teb_laws.specs.Laws.{OfEveryRun, OfEveryStore, reached}
-use Rattle.teb_laws.specs.TreeFacts.{TreeFacts}
-use Rattle.teb_laws.proofs.Answers.{Good}
-use Rattle.teb_laws.proofs.Grows.{not_aborted}
-use Rattle.teb_laws.proofs.Reachable.{answer_good, empty_good, run_good}
-use Rattle.teb_laws.proofs.Sound.{tree_facts}
+use Rattle.teb_rules.specs.laws.Laws.{OfEveryRun, OfEveryStore, reached}
+use Rattle.teb_rules.specs.laws.TreeFacts.{TreeFacts}
+use Rattle.teb_rules.proofs.lemmas.laws.Answers.{Good}
+use Rattle.teb_rules.proofs.lemmas.laws.Grows.{not_aborted}
+use Rattle.teb_rules.proofs.lemmas.laws.Reachable.{answer_good, empty_good, run_good}
+use Rattle.teb_rules.proofs.lemmas.laws.Sound.{tree_facts}
 use Rattle.guarantees.specs.Time.{IsCommitOrdered, IsStrict}
 use Rattle.guarantees.specs.Waiting.{HasNoDeadlock}
 use Rattle.guarantees.specs.Reading.{ReadsGoOn}

@@ -2,19 +2,19 @@
 use Rattle.std.proofs.Common.{◌≡◌, ◌≢◌, ◌⊎◌, ℕ, Bool, true, false, not, ◌&&◌, ◌||◌, eqb, List, [], ◌∷◌, find, Option, Some, None, refl, ◌∙◌, ap, subst, inl, inr, ltb-true, ltb-false, eqb-true, eq-eqb}
 use Rattle.std.proofs.lemmas.Bool.{and_from, and_parts, or_cases, or_left, or_right, cases_eq, not-true}
 use Rattle.std.specs.List.{list_any}
-use Rattle.teb_names.proofs.SameCells.{same_itself}
-use Rattle.teb_names.specs.declared.Cell.{Cell}
-use Rattle.teb_names.specs.Cells.{same_cell}
-use Rattle.teb_names.specs.declared.Node.{Node}
-use Rattle.teb_names.specs.declared.Txn.{Txn}
-use Rattle.teb_names.specs.declared.ControlKind.{ControlKind}
-use Rattle.teb_names.specs.declared.ControlKind.TheVariants.{Locks, Pipeline, Timestamp, Snapshot}
-use Rattle.teb_names.specs.declared.Request.{Request}
-use Rattle.teb_names.specs.declared.Request.TheVariants.{Prepare, Commit}
-use Rattle.teb_history.specs.declared.Event.{Event}
-use Rattle.teb_history.specs.declared.Event.TheVariants.{Began, Got, Put, Ready, Done, Gone, Told}
-use Rattle.teb_history.specs.Phases.{committed, prepared, txns}
-use Rattle.teb_history.specs.Accesses.{wrote}
+use Rattle.teb_rules.proofs.lemmas.names.SameCells.{same_itself}
+use Rattle.teb_rules.specs.declared.names.Cell.{Cell}
+use Rattle.teb_rules.specs.names.Cells.{same_cell}
+use Rattle.teb_rules.specs.declared.names.Node.{Node}
+use Rattle.teb_rules.specs.declared.names.Txn.{Txn}
+use Rattle.teb_rules.specs.declared.names.ControlKind.{ControlKind}
+use Rattle.teb_rules.specs.declared.names.ControlKind.TheVariants.{Locks, Pipeline, Timestamp, Snapshot}
+use Rattle.teb_rules.specs.declared.names.Request.{Request}
+use Rattle.teb_rules.specs.declared.names.Request.TheVariants.{Prepare, Commit}
+use Rattle.teb_rules.specs.declared.history.Event.{Event}
+use Rattle.teb_rules.specs.declared.history.Event.TheVariants.{Began, Got, Put, Ready, Done, Gone, Told}
+use Rattle.teb_rules.specs.history.Phases.{committed, prepared, txns}
+use Rattle.teb_rules.specs.history.Accesses.{wrote}
 use Rattle.teb_rules.specs.Setup.{Setup}
 use Rattle.teb_rules.specs.Tree.{row}
 use Rattle.teb_rules.specs.Batches.{one_batch}
@@ -30,13 +30,13 @@ use Rattle.teb_rules.specs.Controls.{at_stake, blocks, edge, entry_blocks, edges
 use Rattle.teb_rules.specs.Stops.{access_stop, commit_stop, on_commit, or_stop_of, prepare_stop, scan_stop, stop_of, stop_with}
 use Rattle.teb_rules.specs.Cascade.{txn}
 use Rattle.teb_rules.specs.Serializes.{In}
-use Rattle.teb_laws.specs.Lawful.{Lawful}
-use Rattle.teb_laws.specs.Laws.{is_read}
-use Rattle.teb_laws.specs.TreeFacts.{TreeFacts}
-use Rattle.teb_laws.proofs.Pivots.{edges_from, find_has, no_stake_pivot, quads_from}
-use Rattle.teb_laws.proofs.ReadRule.{find_some}
-use Rattle.teb_laws.proofs.Serial.{filter-In}
-use Rattle.teb_laws.proofs.Waits.{InWay, access_way, commit_way}
+use Rattle.teb_rules.specs.laws.Lawful.{Lawful}
+use Rattle.teb_rules.specs.laws.Laws.{is_read}
+use Rattle.teb_rules.specs.laws.TreeFacts.{TreeFacts}
+use Rattle.teb_rules.proofs.lemmas.laws.Pivots.{edges_from, find_has, no_stake_pivot, quads_from}
+use Rattle.teb_rules.proofs.lemmas.laws.ReadRule.{find_some}
+use Rattle.teb_rules.proofs.lemmas.laws.Serial.{filter-In}
+use Rattle.teb_rules.proofs.lemmas.laws.Waits.{InWay, access_way, commit_way}
 use Rattle.teb_rules.specs.Steps.{passed, rank_of_table}
 use Rattle.guarantees.specs.Causes.{IsGrounded, IsOverwritten, IsSecond, IsTooLate, writes}
 

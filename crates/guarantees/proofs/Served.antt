@@ -1,17 +1,17 @@
 -- Reads under timestamp and snapshot nodes are served.
 use Rattle.std.proofs.Common.{◌≡◌, ℕ, ◌≤◌, Bool, true, false, not, cond, ◌&&◌, ◌||◌, eqb, ltb, leb, List, [], ◌∷◌, Some, is_none, refl, ◌∙◌, ap, subst, le-leb, eqb-true, eq-eqb}
 use Rattle.std.proofs.lemmas.Bool.{and_from, and_parts, or_left, or_right, not-true}
-use Rattle.teb_names.specs.declared.TheConstants.{SESSIONS}
-use Rattle.teb_names.specs.declared.Cell.{Cell}
-use Rattle.teb_names.specs.declared.Session.{Session}
-use Rattle.teb_names.specs.declared.ControlKind.{ControlKind}
-use Rattle.teb_names.specs.declared.ControlKind.TheVariants.{Locks, Pipeline, Timestamp, Snapshot}
-use Rattle.teb_names.specs.declared.Request.{Request}
-use Rattle.teb_names.specs.declared.Request.TheVariants.{Begin, Read, Write, Add, Delete, Scan, Prepare, Commit, Abort, End}
-use Rattle.teb_names.specs.declared.Refusal.TheVariants.{UnknownTable, NotInProfile, Range}
-use Rattle.teb_names.specs.declared.Refusal.TheVariants.{Prepared as IsPrepared}
-use Rattle.teb_history.specs.declared.Event.{Event}
-use Rattle.teb_history.specs.Phases.{aborted, held, kind_of, prepared, session_of, unfinished}
+use Rattle.teb_rules.specs.declared.names.TheConstants.{SESSIONS}
+use Rattle.teb_rules.specs.declared.names.Cell.{Cell}
+use Rattle.teb_rules.specs.declared.names.Session.{Session}
+use Rattle.teb_rules.specs.declared.names.ControlKind.{ControlKind}
+use Rattle.teb_rules.specs.declared.names.ControlKind.TheVariants.{Locks, Pipeline, Timestamp, Snapshot}
+use Rattle.teb_rules.specs.declared.names.Request.{Request}
+use Rattle.teb_rules.specs.declared.names.Request.TheVariants.{Begin, Read, Write, Add, Delete, Scan, Prepare, Commit, Abort, End}
+use Rattle.teb_rules.specs.declared.names.Refusal.TheVariants.{UnknownTable, NotInProfile, Range}
+use Rattle.teb_rules.specs.declared.names.Refusal.TheVariants.{Prepared as IsPrepared}
+use Rattle.teb_rules.specs.declared.history.Event.{Event}
+use Rattle.teb_rules.specs.history.Phases.{aborted, held, kind_of, prepared, session_of, unfinished}
 use Rattle.teb_rules.specs.Setup.{Setup, Store, among, profile}
 use Rattle.teb_rules.specs.Tree.{is_snapshot, is_timestamp, on, on_path, row}
 use Rattle.teb_rules.specs.Steps.{cursor, least_step}
@@ -23,10 +23,10 @@ use Rattle.teb_rules.specs.Controls.{on_access}
 use Rattle.teb_rules.specs.Stops.{access_stop, nodes_of, or_stop_of, scan_stop, stop_of, stop_with}
 use Rattle.teb_rules.specs.Alone.{is_served}
 use Rattle.teb_rules.specs.Answer.{Answered, answer, answer_of, cells_from, is_scan, or_refused, or_stop, refuse, scan_values}
-use Rattle.teb_laws.specs.Lawful.{Lawful}
-use Rattle.teb_laws.proofs.Cascades.{unfinished_times}
-use Rattle.teb_laws.proofs.Holding.{held_holds}
-use Rattle.teb_laws.proofs.Sessions.{session_range}
+use Rattle.teb_rules.specs.laws.Lawful.{Lawful}
+use Rattle.teb_rules.proofs.lemmas.laws.Cascades.{unfinished_times}
+use Rattle.teb_rules.proofs.lemmas.laws.Holding.{held_holds}
+use Rattle.teb_rules.proofs.lemmas.laws.Sessions.{session_range}
 use Rattle.guarantees.specs.Causes.{writes}
 use Rattle.guarantees.specs.Reading.{ReadsFreely, is_write}
 

@@ -1,7 +1,7 @@
 -- Worked runs, by computation, that show the limits of the guarantees.
 use Rattle.std.proofs.Common.{◌≡◌, ℕ, zero, suc, ◌<◌, lit<, List, [], ◌∷◌, length, get_or, None, refl, ap, inl, inr, arith}
-use Rattle.teb_names.specs.declared.ControlKind.{ControlKind}
-use Rattle.teb_names.specs.declared.ControlKind.TheVariants.{Locks, Pipeline, Timestamp, Snapshot}
+use Rattle.teb_rules.specs.declared.names.ControlKind.{ControlKind}
+use Rattle.teb_rules.specs.declared.names.ControlKind.TheVariants.{Locks, Pipeline, Timestamp, Snapshot}
 use Rattle.teb_rules.specs.Setup.{profile}
 use Rattle.teb_rules.specs.Tree.{row}
 use Rattle.teb_rules.specs.Accepted.{IsSound, tree_fault}

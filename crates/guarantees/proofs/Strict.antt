@@ -1,26 +1,26 @@
 -- A root that orders by commits, is a leaf, or admits one transaction per batch, keeps the real-time order.
 use Rattle.std.proofs.Common.{◌≡◌, ◌≢◌, ◌⊎◌, ℕ, suc, ◌<◌, ◌≤◌, true, ◌||◌, eqb, List, [], ◌∷◌, length, refl, sym, ◌∙◌, ap, inl, inr, arith, le_refl, eq-eqb, eqb-true}
 use Rattle.std.proofs.lemmas.Bool.{or_left, both_ways, cases_eq, cases_lt}
-use Rattle.teb_names.specs.declared.ControlKind.{ControlKind}
-use Rattle.teb_names.specs.declared.ControlKind.TheVariants.{Locks, Pipeline, Timestamp, Snapshot}
-use Rattle.teb_history.specs.declared.Event.{Event}
-use Rattle.teb_history.specs.declared.Event.TheVariants.{Began}
-use Rattle.teb_history.specs.Positions.{upto}
-use Rattle.teb_history.specs.Phases.{began_at, done_at, gone_at, is_began, spot_of}
+use Rattle.teb_rules.specs.declared.names.ControlKind.{ControlKind}
+use Rattle.teb_rules.specs.declared.names.ControlKind.TheVariants.{Locks, Pipeline, Timestamp, Snapshot}
+use Rattle.teb_rules.specs.declared.history.Event.{Event}
+use Rattle.teb_rules.specs.declared.history.Event.TheVariants.{Began}
+use Rattle.teb_rules.specs.history.Positions.{upto}
+use Rattle.teb_rules.specs.history.Phases.{began_at, done_at, gone_at, is_began, spot_of}
 use Rattle.teb_rules.specs.Setup.{Setup, among}
 use Rattle.teb_rules.specs.Tree.{is_locks, is_pipeline, on, on_path, path, row, side}
 use Rattle.teb_rules.specs.Batches.{close, idle, start}
 use Rattle.teb_rules.specs.Ranks.{rank, serial_order, serially}
-use Rattle.teb_laws.specs.Lawful.{Lawful}
-use Rattle.teb_laws.specs.TreeFacts.{TreeFacts}
-use Rattle.teb_laws.proofs.Batches.{Works, idle_no, idle_someone, opens_at, starts_at}
-use Rattle.teb_laws.proofs.Commits.{committed_in, order_of_commits, serial_from_root}
-use Rattle.teb_laws.proofs.Intervals.{interval}
-use Rattle.teb_laws.proofs.Lists.{stands_sorted}
-use Rattle.teb_laws.proofs.Meeting.{Rooted, path_good}
-use Rattle.teb_laws.proofs.Ranks.{BatchRank, by_done, by_start, by_batch, commits, done_rank, kind_node, snapshot_rank, timestamp_rank}
-use Rattle.teb_laws.proofs.Serial.{Commits, commits_from, order_all, order_each, order_sorted, serial_strict}
-use Rattle.teb_laws.proofs.Timeline.{apart, kind-lt}
+use Rattle.teb_rules.specs.laws.Lawful.{Lawful}
+use Rattle.teb_rules.specs.laws.TreeFacts.{TreeFacts}
+use Rattle.teb_rules.proofs.lemmas.laws.Batches.{Works, idle_no, idle_someone, opens_at, starts_at}
+use Rattle.teb_rules.proofs.lemmas.laws.Commits.{committed_in, order_of_commits, serial_from_root}
+use Rattle.teb_rules.proofs.lemmas.laws.Intervals.{interval}
+use Rattle.teb_rules.proofs.lemmas.laws.Lists.{stands_sorted}
+use Rattle.teb_rules.proofs.lemmas.laws.Meeting.{Rooted, path_good}
+use Rattle.teb_rules.proofs.lemmas.laws.Ranks.{BatchRank, by_done, by_start, by_batch, commits, done_rank, kind_node, snapshot_rank, timestamp_rank}
+use Rattle.teb_rules.proofs.lemmas.laws.Serial.{Commits, commits_from, order_all, order_each, order_sorted, serial_strict}
+use Rattle.teb_rules.proofs.lemmas.laws.Timeline.{apart, kind-lt}
 use Rattle.guarantees.specs.Shapes.{orders_by_commits}
 use Rattle.guarantees.specs.Time.{KeepsRealTime, commit_order}
 

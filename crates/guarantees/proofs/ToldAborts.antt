@@ -1,26 +1,26 @@
 -- What an answer says of an abort, and which transactions it aborts.
 use Rattle.std.proofs.Common.{◌≡◌, ◌≢◌, ◌⊎◌, ℕ, Bool, true, false, not, cond, ◌&&◌, ltb, leb, List, [], ◌∷◌, Option, Some, None, is_none, unwrap_or, refl, sym, ◌∙◌, ap, subst, inl, inr, ltb-true, eqb-true, eq-eqb, ℤ, ◌+ℤ◌}
 use Rattle.std.proofs.lemmas.Bool.{and_parts, or_cases, both_ways}
-use Rattle.teb_names.specs.declared.TheConstants.{MOST_TXNS, SESSIONS}
-use Rattle.teb_names.proofs.SameCells.{same_itself}
-use Rattle.teb_names.specs.declared.Cell.{Cell}
-use Rattle.teb_names.specs.declared.Txn.{Txn}
-use Rattle.teb_names.specs.declared.Spot.{Spot}
-use Rattle.teb_names.specs.declared.Session.{Session}
-use Rattle.teb_names.specs.declared.Cause.{Cause}
-use Rattle.teb_names.specs.declared.Cause.TheVariants.{After, Newer, Asked, Ended}
-use Rattle.teb_names.specs.declared.Cause.TheVariants.{Late, First, Pivot}
-use Rattle.teb_names.specs.declared.Request.{Request}
-use Rattle.teb_names.specs.declared.Request.TheVariants.{Begin, Read, Write, Add, Delete, Scan, Prepare, Commit, Abort, End}
-use Rattle.teb_names.specs.declared.Refusal.TheVariants.{UnknownType, Full, UnknownTable, NotInProfile, Overflow, Range, BadSession}
-use Rattle.teb_names.specs.declared.Refusal.TheVariants.{Prepared as IsPrepared}
-use Rattle.teb_names.specs.declared.Reply.{Reply}
-use Rattle.teb_names.specs.declared.Reply.TheVariants.{Aborted, Again, Committed, Prepared, Value, Values}
-use Rattle.teb_names.specs.declared.Reply.TheVariants.{Done as Written}
-use Rattle.teb_history.specs.declared.Event.{Event}
-use Rattle.teb_history.specs.declared.Event.TheVariants.{Began, Got, Put, Ready, Done, Gone, Told as WasTold}
-use Rattle.teb_history.specs.Phases.{aborted, begun_count, cause_of, held, is_after, is_gone, kind_of, prepared, unfinished, untold}
-use Rattle.teb_history.proofs.Newest.{aborted-cons}
+use Rattle.teb_rules.specs.declared.names.TheConstants.{MOST_TXNS, SESSIONS}
+use Rattle.teb_rules.proofs.lemmas.names.SameCells.{same_itself}
+use Rattle.teb_rules.specs.declared.names.Cell.{Cell}
+use Rattle.teb_rules.specs.declared.names.Txn.{Txn}
+use Rattle.teb_rules.specs.declared.names.Spot.{Spot}
+use Rattle.teb_rules.specs.declared.names.Session.{Session}
+use Rattle.teb_rules.specs.declared.names.Cause.{Cause}
+use Rattle.teb_rules.specs.declared.names.Cause.TheVariants.{After, Newer, Asked, Ended}
+use Rattle.teb_rules.specs.declared.names.Cause.TheVariants.{Late, First, Pivot}
+use Rattle.teb_rules.specs.declared.names.Request.{Request}
+use Rattle.teb_rules.specs.declared.names.Request.TheVariants.{Begin, Read, Write, Add, Delete, Scan, Prepare, Commit, Abort, End}
+use Rattle.teb_rules.specs.declared.names.Refusal.TheVariants.{UnknownType, Full, UnknownTable, NotInProfile, Overflow, Range, BadSession}
+use Rattle.teb_rules.specs.declared.names.Refusal.TheVariants.{Prepared as IsPrepared}
+use Rattle.teb_rules.specs.declared.names.Reply.{Reply}
+use Rattle.teb_rules.specs.declared.names.Reply.TheVariants.{Aborted, Again, Committed, Prepared, Value, Values}
+use Rattle.teb_rules.specs.declared.names.Reply.TheVariants.{Done as Written}
+use Rattle.teb_rules.specs.declared.history.Event.{Event}
+use Rattle.teb_rules.specs.declared.history.Event.TheVariants.{Began, Got, Put, Ready, Done, Gone, Told as WasTold}
+use Rattle.teb_rules.specs.history.Phases.{aborted, begun_count, cause_of, held, is_after, is_gone, kind_of, prepared, unfinished, untold}
+use Rattle.teb_rules.proofs.lemmas.history.Newest.{aborted-cons}
 use Rattle.teb_rules.specs.Setup.{Store, Setup, profile}
 use Rattle.teb_rules.specs.Steps.{cursor, least_step}
 use Rattle.teb_rules.specs.Versions.{read}
@@ -30,11 +30,11 @@ use Rattle.teb_rules.specs.Verdicts.{cause_at}
 use Rattle.teb_rules.specs.Stops.{access_stop, begin_stop, commit_stop, prepare_stop, scan_stop}
 use Rattle.teb_rules.specs.Cascade.{abort, blamed, cascade, txn}
 use Rattle.teb_rules.specs.Answer.{Answered, added, answer, answer_new, answer_of, answer_to, begin_or_wait, broken_off, cells_from, fits, is_scan, or_refused, or_stop, put_value, read_all, refuse, scan_values}
-use Rattle.teb_laws.specs.Lawful.{Lawful}
-use Rattle.teb_laws.specs.TreeFacts.{TreeFacts}
-use Rattle.teb_laws.proofs.Answers.{aborted_kept}
-use Rattle.teb_laws.proofs.Cascades.{cascade-In, falls_parts}
-use Rattle.teb_laws.proofs.Holding.{held_holds, holds_cases, not_unfinished}
+use Rattle.teb_rules.specs.laws.Lawful.{Lawful}
+use Rattle.teb_rules.specs.laws.TreeFacts.{TreeFacts}
+use Rattle.teb_rules.proofs.lemmas.laws.Answers.{aborted_kept}
+use Rattle.teb_rules.proofs.lemmas.laws.Cascades.{cascade-In, falls_parts}
+use Rattle.teb_rules.proofs.lemmas.laws.Holding.{held_holds, holds_cases, not_unfinished}
 use Rattle.guarantees.specs.Causes.{IsGrounded, request_stop, writes}
 use Rattle.guarantees.proofs.Following.{held_runs}
 use Rattle.guarantees.proofs.Fallen.{Fallen, aborts_fall, cause_member, cause_other, fell_after}

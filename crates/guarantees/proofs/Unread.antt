@@ -2,29 +2,29 @@
 use Rattle.std.proofs.Common.{◌≡◌, ◌≢◌, ℕ, zero, suc, ◌<◌, Bool, true, false, ◌||◌, List, [], ◌∷◌, length, filter, refl, sym, ◌∙◌, ap, subst, inl, inr, arith, le_refl, ltb-true, ltb-false, lt-ltb, eqb-true}
 use Rattle.std.proofs.lemmas.Bool.{and_parts, or_cases, or_right, cases_lt, false_from_ne_true, not-true, eqb-false}
 use Rattle.std.specs.List.{list_any}
-use Rattle.teb_names.specs.declared.Cell.{Cell}
-use Rattle.teb_names.specs.declared.ControlKind.{ControlKind}
-use Rattle.teb_names.specs.declared.ControlKind.TheVariants.{Locks, Pipeline, Timestamp, Snapshot}
-use Rattle.teb_history.specs.declared.Event.{Event}
-use Rattle.teb_history.specs.declared.Event.TheVariants.{Began, Got, Put, Ready, Done, Gone, Told}
-use Rattle.teb_history.specs.Phases.{is_done, began_at, begun_count, committed, aborted, done_at, txns, unfinished}
-use Rattle.teb_history.specs.Accesses.{is_from, read_from}
-use Rattle.teb_history.proofs.Newest.{committed-cons}
+use Rattle.teb_rules.specs.declared.names.Cell.{Cell}
+use Rattle.teb_rules.specs.declared.names.ControlKind.{ControlKind}
+use Rattle.teb_rules.specs.declared.names.ControlKind.TheVariants.{Locks, Pipeline, Timestamp, Snapshot}
+use Rattle.teb_rules.specs.declared.history.Event.{Event}
+use Rattle.teb_rules.specs.declared.history.Event.TheVariants.{Began, Got, Put, Ready, Done, Gone, Told}
+use Rattle.teb_rules.specs.history.Phases.{is_done, began_at, begun_count, committed, aborted, done_at, txns, unfinished}
+use Rattle.teb_rules.specs.history.Accesses.{is_from, read_from}
+use Rattle.teb_rules.proofs.lemmas.history.Newest.{committed-cons}
 use Rattle.std.proofs.lemmas.List.{get_or_past}
 use Rattle.teb_rules.specs.Setup.{NodeRow, Setup}
 use Rattle.teb_rules.specs.Tree.{no_row, is_locks, is_snapshot, on, row}
 use Rattle.teb_rules.specs.Batches.{close, start}
 use Rattle.teb_rules.specs.Versions.{sees, sees_by, source}
 use Rattle.teb_rules.specs.Cascade.{cascade, fallen}
-use Rattle.teb_laws.specs.Lawful.{Granted, Lawful}
-use Rattle.teb_laws.specs.TreeFacts.{TreeFacts}
-use Rattle.teb_laws.proofs.Cascades.{fallen_step, falls, falls_parts, txns-began, unfinished_times}
-use Rattle.teb_laws.proofs.Intervals.{interval, open_while}
-use Rattle.teb_laws.proofs.Meeting.{meets_exists}
-use Rattle.teb_laws.proofs.Nodes.{meet_is, meets_parts}
-use Rattle.teb_laws.proofs.ReadRule.{from_own, from_row, from_seen, latest-some, read_case, sees_parts}
-use Rattle.teb_laws.proofs.Serial.{filter-In}
-use Rattle.teb_laws.proofs.Timeline.{begun_counted}
+use Rattle.teb_rules.specs.laws.Lawful.{Granted, Lawful}
+use Rattle.teb_rules.specs.laws.TreeFacts.{TreeFacts}
+use Rattle.teb_rules.proofs.lemmas.laws.Cascades.{fallen_step, falls, falls_parts, txns-began, unfinished_times}
+use Rattle.teb_rules.proofs.lemmas.laws.Intervals.{interval, open_while}
+use Rattle.teb_rules.proofs.lemmas.laws.Meeting.{meets_exists}
+use Rattle.teb_rules.proofs.lemmas.laws.Nodes.{meet_is, meets_parts}
+use Rattle.teb_rules.proofs.lemmas.laws.ReadRule.{from_own, from_row, from_seen, latest-some, read_case, sees_parts}
+use Rattle.teb_rules.proofs.lemmas.laws.Serial.{filter-In}
+use Rattle.teb_rules.proofs.lemmas.laws.Timeline.{begun_counted}
 use Rattle.guarantees.specs.Shapes.{HidesUncommitted}
 
 -- if the batch of w closed before that of t started, w is committed or aborted

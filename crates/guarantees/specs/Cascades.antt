@@ -1,12 +1,12 @@
 -- Trees in which an abort takes no other transaction with it.
 use Rattle.std.specs.Prelude.{◌≡◌, ◌≢◌, ℕ, List, [], Some, IsTrue}
-use Rattle.teb_names.specs.declared.Txn.{Txn}
-use Rattle.teb_names.specs.declared.Session.{Session}
-use Rattle.teb_names.specs.declared.Cause.TheVariants.{After}
-use Rattle.teb_names.specs.declared.Request.{Request}
-use Rattle.teb_names.specs.declared.Reply.TheVariants.{Aborted}
-use Rattle.teb_history.specs.declared.Event.{Event}
-use Rattle.teb_history.specs.Phases.{unfinished, cause_of}
+use Rattle.teb_rules.specs.declared.names.Txn.{Txn}
+use Rattle.teb_rules.specs.declared.names.Session.{Session}
+use Rattle.teb_rules.specs.declared.names.Cause.TheVariants.{After}
+use Rattle.teb_rules.specs.declared.names.Request.{Request}
+use Rattle.teb_rules.specs.declared.names.Reply.TheVariants.{Aborted}
+use Rattle.teb_rules.specs.declared.history.Event.{Event}
+use Rattle.teb_rules.specs.history.Phases.{unfinished, cause_of}
 use Rattle.teb_rules.specs.Setup.{Store}
 use Rattle.teb_rules.specs.Cascade.{cascade}
 use Rattle.teb_rules.specs.Answer.{answer}

@@ -1,20 +1,20 @@
 -- What each cause of an abort names.
 use Rattle.std.specs.Prelude.{◌≡◌, ◌≢◌, ◌⊎◌, ℕ, ◌<◌, ◌≤◌, Bool, true, false, List, [], ◌∷◌, Some, IsTrue, IsFalse}
 use Rattle.std.specs.List.{list_any}
-use Rattle.teb_names.specs.declared.Txn.{Txn}
-use Rattle.teb_names.specs.declared.Node.{Node}
-use Rattle.teb_names.specs.declared.Session.{Session}
-use Rattle.teb_names.specs.declared.Cell.{Cell}
-use Rattle.teb_names.specs.Cells.{same_cell}
-use Rattle.teb_names.specs.declared.Cause.{Cause}
-use Rattle.teb_names.specs.declared.Cause.TheVariants.{Late, First, Pivot, Newer, After, Asked, Ended}
-use Rattle.teb_names.specs.declared.ControlKind.TheVariants.{Timestamp, Snapshot}
-use Rattle.teb_names.specs.declared.Request.{Request}
-use Rattle.teb_names.specs.declared.Request.TheVariants.{Read, Write, Add, Delete, Scan, Prepare, Commit, Abort, End}
-use Rattle.teb_names.specs.declared.Reply.TheVariants.{Aborted}
-use Rattle.teb_history.specs.declared.Event.{Event}
-use Rattle.teb_history.specs.Phases.{unfinished, prepared, committed, aborted, cause_of, held}
-use Rattle.teb_history.specs.Accesses.{wrote}
+use Rattle.teb_rules.specs.declared.names.Txn.{Txn}
+use Rattle.teb_rules.specs.declared.names.Node.{Node}
+use Rattle.teb_rules.specs.declared.names.Session.{Session}
+use Rattle.teb_rules.specs.declared.names.Cell.{Cell}
+use Rattle.teb_rules.specs.names.Cells.{same_cell}
+use Rattle.teb_rules.specs.declared.names.Cause.{Cause}
+use Rattle.teb_rules.specs.declared.names.Cause.TheVariants.{Late, First, Pivot, Newer, After, Asked, Ended}
+use Rattle.teb_rules.specs.declared.names.ControlKind.TheVariants.{Timestamp, Snapshot}
+use Rattle.teb_rules.specs.declared.names.Request.{Request}
+use Rattle.teb_rules.specs.declared.names.Request.TheVariants.{Read, Write, Add, Delete, Scan, Prepare, Commit, Abort, End}
+use Rattle.teb_rules.specs.declared.names.Reply.TheVariants.{Aborted}
+use Rattle.teb_rules.specs.declared.history.Event.{Event}
+use Rattle.teb_rules.specs.history.Phases.{unfinished, prepared, committed, aborted, cause_of, held}
+use Rattle.teb_rules.specs.history.Accesses.{wrote}
 use Rattle.teb_rules.specs.Setup.{Setup, Store}
 use Rattle.teb_rules.specs.Tree.{row, meets}
 use Rattle.teb_rules.specs.Batches.{start, close, concurrent, one_batch}
@@ -24,7 +24,7 @@ use Rattle.teb_rules.specs.declared.Stop.TheVariants.{Go, Wait}
 use Rattle.teb_rules.specs.Stops.{access_stop, scan_stop, prepare_stop, commit_stop}
 use Rattle.teb_rules.specs.Serializes.{In}
 use Rattle.teb_rules.specs.Answer.{answer, cells_from}
-use Rattle.teb_laws.specs.Laws.{is_read}
+use Rattle.teb_rules.specs.laws.Laws.{is_read}
 
 -- t read x from w: the history has that event
 abbrev pub HasRead : List Event → ℕ → Cell → ℕ → Type 0

@@ -1,15 +1,15 @@
 -- Reads that neither wait nor break.
 use Rattle.std.specs.Prelude.{◌≡◌, ℕ, Bool, true, false, List, Some, IsTrue}
-use Rattle.teb_names.specs.declared.Cell.{Cell}
-use Rattle.teb_names.specs.declared.Node.{Node}
-use Rattle.teb_names.specs.declared.Txn.{Txn}
-use Rattle.teb_names.specs.declared.Session.{Session}
-use Rattle.teb_names.specs.declared.Cause.TheVariants.{Late, First}
-use Rattle.teb_names.specs.declared.Request.{Request}
-use Rattle.teb_names.specs.declared.Request.TheVariants.{Read, Write, Add, Delete, Scan}
-use Rattle.teb_names.specs.declared.Reply.TheVariants.{Aborted}
-use Rattle.teb_history.specs.declared.Event.{Event}
-use Rattle.teb_history.specs.Phases.{unfinished, held}
+use Rattle.teb_rules.specs.declared.names.Cell.{Cell}
+use Rattle.teb_rules.specs.declared.names.Node.{Node}
+use Rattle.teb_rules.specs.declared.names.Txn.{Txn}
+use Rattle.teb_rules.specs.declared.names.Session.{Session}
+use Rattle.teb_rules.specs.declared.names.Cause.TheVariants.{Late, First}
+use Rattle.teb_rules.specs.declared.names.Request.{Request}
+use Rattle.teb_rules.specs.declared.names.Request.TheVariants.{Read, Write, Add, Delete, Scan}
+use Rattle.teb_rules.specs.declared.names.Reply.TheVariants.{Aborted}
+use Rattle.teb_rules.specs.declared.history.Event.{Event}
+use Rattle.teb_rules.specs.history.Phases.{unfinished, held}
 use Rattle.teb_rules.specs.Setup.{Store}
 use Rattle.teb_rules.specs.Tree.{on, has_batches}
 use Rattle.teb_rules.specs.Alone.{is_served}

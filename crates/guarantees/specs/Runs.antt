@@ -1,9 +1,9 @@
 -- Runs that show where a guarantee ends. All are over the stores of `Shapes`, without rows.
 use Rattle.std.specs.Prelude.{ℕ, List, [], ◌∷◌, pos}
-use Rattle.teb_names.specs.declared.Cell.{Cell}
-use Rattle.teb_names.specs.declared.Session.{Session}
-use Rattle.teb_names.specs.declared.Request.{Request}
-use Rattle.teb_names.specs.declared.Request.TheVariants.{Begin, Read, Write, Commit}
+use Rattle.teb_rules.specs.declared.names.Cell.{Cell}
+use Rattle.teb_rules.specs.declared.names.Session.{Session}
+use Rattle.teb_rules.specs.declared.names.Request.{Request}
+use Rattle.teb_rules.specs.declared.names.Request.TheVariants.{Begin, Read, Write, Commit}
 
 -- session s asks r
 abbrev pub asks : ℕ → Request → Session × Request

@@ -1,14 +1,14 @@
 -- Shapes of trees that a guarantee asks for, and stores that show where it ends.
 use Rattle.std.specs.Prelude.{ℕ, ◌<◌, Bool, false, ◌||◌, leb, List, [], ◌∷◌, length, Some, None, IsTrue}
-use Rattle.teb_names.specs.declared.Session.{Session}
-use Rattle.teb_names.specs.declared.Request.{Request}
-use Rattle.teb_names.specs.declared.ControlKind.{ControlKind}
-use Rattle.teb_names.specs.declared.ControlKind.TheVariants.{Locks}
-use Rattle.teb_history.specs.declared.Event.{Event}
+use Rattle.teb_rules.specs.declared.names.Session.{Session}
+use Rattle.teb_rules.specs.declared.names.Request.{Request}
+use Rattle.teb_rules.specs.declared.names.ControlKind.{ControlKind}
+use Rattle.teb_rules.specs.declared.names.ControlKind.TheVariants.{Locks}
+use Rattle.teb_rules.specs.declared.history.Event.{Event}
 use Rattle.teb_rules.specs.Setup.{NodeRow, Setup, Store}
 use Rattle.teb_rules.specs.Tree.{row, is_locks, is_pipeline, is_snapshot}
 use Rattle.teb_rules.specs.Accepted.{IsSound, has_types}
-use Rattle.teb_laws.specs.Laws.{reached}
+use Rattle.teb_rules.specs.laws.Laws.{reached}
 
 -- the root is a locks or a pipeline node
 abbrev pub orders_by_commits : Setup → Bool

@@ -1,8 +1,8 @@
 -- The serial order and the time at which transactions begin and commit.
 use Rattle.std.specs.Prelude.{◌≡◌, ℕ, ◌<◌, List, [], ◌∷◌, ◌++◌, IsTrue}
-use Rattle.teb_history.specs.declared.Event.{Event}
-use Rattle.teb_history.specs.declared.Event.TheVariants.{Done}
-use Rattle.teb_history.specs.Phases.{began_at, done_at, committed}
+use Rattle.teb_rules.specs.declared.history.Event.{Event}
+use Rattle.teb_rules.specs.declared.history.Event.TheVariants.{Done}
+use Rattle.teb_rules.specs.history.Phases.{began_at, done_at, committed}
 use Rattle.teb_rules.specs.Setup.{Setup}
 use Rattle.teb_rules.specs.Ranks.{serial_order}
 use Rattle.teb_rules.specs.Serializes.{StandsBefore}

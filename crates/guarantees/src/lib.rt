@@ -24,11 +24,11 @@
 //!   3 begins after 2 has committed, joins the open batch of 1, and precedes 2 in the serial order: it does not read the write of 2
 //! ```
 //!
-//! **Not claimed**: serializability and recoverability, which hold of every tree and are laws of `teb_laws`; freedom from starvation.
+//! **Not claimed**: serializability and recoverability, which hold of every tree and are laws of `teb_rules::laws`; freedom from starvation.
 #![tactic(auto)]
 
-ghost use Rattle.teb_laws.specs.Laws.{OfEveryRun, OfEveryStore};
-ghost use Rattle.teb_names.specs.declared.ControlKind.TheVariants.{Locks, Pipeline, Timestamp, Snapshot};
+ghost use Rattle.teb_rules.specs.laws.Laws.{OfEveryRun, OfEveryStore};
+ghost use Rattle.teb_rules.specs.declared.names.ControlKind.TheVariants.{Locks, Pipeline, Timestamp, Snapshot};
 ghost use Rattle.guarantees.specs.Shapes.{Breaks, one_node, two_sides};
 ghost use Rattle.guarantees.specs.Runs.{late_joiner, early_reader, writer_underway};
 ghost use Rattle.guarantees.specs.Time.{IsStrict, IsCommitOrdered, KeepsRealTime, FollowsCommits};

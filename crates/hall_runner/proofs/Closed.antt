@@ -1,9 +1,9 @@
 -- A hall that was closed: its engine's history is a run over the setup's store, and what is printed of it is shown.
 use Rattle.std.proofs.Common.{◌≡◌, ◌≢◌, ℕ, List, [], length, Some, slice_get, refl, sym, ◌∙◌, ap, subst}
-use Rattle.teb_names.specs.declared.Entry.{Entry}
-use Rattle.teb_names.specs.declared.Session.{Session}
-use Rattle.teb_names.specs.declared.naming.NameBook.{NameBook}
-use Rattle.teb_history.specs.declared.Event.{Event}
+use Rattle.teb_rules.specs.declared.names.Entry.{Entry}
+use Rattle.teb_rules.specs.declared.names.Session.{Session}
+use Rattle.teb_rules.specs.declared.names.naming.NameBook.{NameBook}
+use Rattle.teb_rules.specs.declared.history.Event.{Event}
 use Rattle.teb_rules.specs.Setup.{Store}
 use Rattle.teb_rules.specs.Ranks.{serial_order}
 use Rattle.teb_rules.specs.Serializes.{Serializes}
@@ -11,13 +11,13 @@ use Rattle.teb_rules.specs.Run.{IsLegal, history_of, requests_of}
 use Rattle.teb_rules.specs.Scripts.{IsWalk, entries_of}
 use Rattle.script_text.specs.declared.Line.{Line}
 use Rattle.script_walk.specs.ScriptStates.{requests_on}
-use Rattle.replay_runner.specs.Logs.{log_of}
+use Rattle.script_runner.specs.replay.Logs.{log_of}
 use Rattle.audit_check.specs.Audit.{IsAudited}
 use Rattle.command_output.specs.Shown.{Shown}
 use Rattle.store_setup.specs.Stores.{store_of_view}
 use Rattle.printed_run.specs.Printed.{IsNamedBy, IsPrintedRun}
-use Rattle.input_runner.specs.Runs.{IsRunOver}
-use Rattle.input_runner.proofs.Runs.{is_serialized}
+use Rattle.script_runner.specs.Runs.{IsRunOver}
+use Rattle.script_runner.proofs.Runs.{is_serialized}
 use Rattle.hall_runner.specs.Served.{AreServed}
 use Rattle.hall_runner.specs.Outcomes.{AreSetUp, IsSerializedOver}
 

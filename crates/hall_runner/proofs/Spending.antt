@@ -1,6 +1,6 @@
 -- What a pass of a hall has seen is a run of the store that the hall was made over.
 use Rattle.std.proofs.Common.{◌≡◌, List, subst}
-use Rattle.teb_names.specs.declared.Session.{Session}
+use Rattle.teb_rules.specs.declared.names.Session.{Session}
 use Rattle.teb_rules.specs.Setup.{Store}
 use Rattle.teb_rules.specs.Run.{IsLegal}
 use Rattle.session_server.specs.Halls.{Ghosts, Hall, Pass}

@@ -1,17 +1,17 @@
 -- The walks of the sessions of a closed hall, from what its passes have seen.
 use Rattle.std.proofs.Common.{◌≡◌, ◌≢◌, ℕ, zero, suc, ◌+◌, ◌<◌, ◌≤◌, ◌==◌, if◌then◌else◌, Bool, true, false, List, [], ◌∷◌, map, Some, All, slice_get, eqb, refl, sym, ◌∙◌, ap, subst, arith, inl, inr}
 use Rattle.std.proofs.lemmas.Bool.{eqb-true, cases_lt}
-use Rattle.teb_names.specs.declared.TheConstants.{SESSIONS}
-use Rattle.teb_names.specs.declared.Entry.{Entry}
-use Rattle.teb_names.specs.declared.Session.{Session}
-use Rattle.teb_history.specs.Phases.{numbers}
+use Rattle.teb_rules.specs.declared.names.TheConstants.{SESSIONS}
+use Rattle.teb_rules.specs.declared.names.Entry.{Entry}
+use Rattle.teb_rules.specs.declared.names.Session.{Session}
+use Rattle.teb_rules.specs.history.Phases.{numbers}
 use Rattle.teb_rules.specs.Driver.{Ascending}
 use Rattle.teb_rules.specs.Scripts.{IsWalk, entries_of}
 use Rattle.turn_lock.specs.Counts.{Has, times}
 use Rattle.session_server.specs.Halls.{Ghosts, Hall, Pass}
 use Rattle.script_text.specs.declared.Line.{Line}
 use Rattle.script_walk.specs.ScriptStates.{requests_on}
-use Rattle.fair_driver.specs.Seats.{scripts_on}
+use Rattle.script_runner.specs.turns.Seats.{scripts_on}
 use Rattle.session_server.specs.Passes.{IsWithin, number_of}
 use Rattle.session_server.proofs.Numbers.{has_all}
 use Rattle.session_tasks.specs.Scripted.{Scripted}

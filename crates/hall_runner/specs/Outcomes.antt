@@ -1,9 +1,9 @@
 -- What a run by several threads comes to, by its outcome.
 use Rattle.std.specs.Prelude.{◌≡◌, List, [], Option, Some, None, IfSome}
-use Rattle.teb_names.specs.declared.Entry.{Entry}
-use Rattle.teb_names.specs.declared.Session.{Session}
-use Rattle.teb_names.specs.declared.naming.NameBook.{NameBook}
-use Rattle.teb_history.specs.declared.Event.{Event}
+use Rattle.teb_rules.specs.declared.names.Entry.{Entry}
+use Rattle.teb_rules.specs.declared.names.Session.{Session}
+use Rattle.teb_rules.specs.declared.names.naming.NameBook.{NameBook}
+use Rattle.teb_rules.specs.declared.history.Event.{Event}
 use Rattle.teb_rules.specs.Setup.{Store}
 use Rattle.teb_rules.specs.Ranks.{serial_order}
 use Rattle.teb_rules.specs.Serializes.{Serializes}

@@ -1,6 +1,6 @@
 -- What a run by several threads comes to.
 use Rattle.std.specs.Prelude.{◌≡◌, ℕ, List, Some, slice_get}
-use Rattle.teb_names.specs.declared.Session.{Session}
+use Rattle.teb_rules.specs.declared.names.Session.{Session}
 use Rattle.teb_rules.specs.Setup.{Store}
 use Rattle.teb_rules.specs.Run.{IsLegal}
 use Rattle.teb_rules.specs.Scripts.{IsWay}

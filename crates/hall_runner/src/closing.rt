@@ -1,9 +1,9 @@
 //! The end of a hall whose scripts are done.
 
 ghost use Rattle.std.specs.Prelude.{◌≡◌, All, map, IfOk};
-ghost use Rattle.teb_history.specs.Phases.{numbers};
+ghost use Rattle.teb_rules.specs.history.Phases.{numbers};
 ghost use Rattle.teb_rules.specs.Driver.{Ascending};
-ghost use Rattle.fair_driver.specs.Seats.{scripts_on};
+ghost use Rattle.script_runner.specs.turns.Seats.{scripts_on};
 ghost use Rattle.session_server.specs.Passes.{base_of, number_of};
 ghost use Rattle.session_tasks.specs.Served.{IsServed};
 ghost use Rattle.hall_runner.specs.Outcomes.{IsServedOver, IsSerializedOver, AreSetUp, history_in};
@@ -14,7 +14,7 @@ use chain_pool::PooledChains;
 use script_text::Scripts;
 use session_server::{Hall, Pass};
 use std::alloc::{AllocError, Global};
-use teb_names::SESSIONS;
+use teb_rules::names::SESSIONS;
 
 /// Closes the hall, and prints its run.
 pub fn closed(

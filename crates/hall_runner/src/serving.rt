@@ -1,16 +1,16 @@
 //! Workers that serve the scripts of an input.
 
 ghost use Rattle.std.specs.Prelude.{◌≡◌, ◌≢◌, ◌≤◌, [], All, map, IfOk, IfErr};
-ghost use Rattle.teb_history.specs.Phases.{numbers};
+ghost use Rattle.teb_rules.specs.history.Phases.{numbers};
 ghost use Rattle.teb_rules.specs.Driver.{Ascending};
-ghost use Rattle.fair_driver.specs.Seats.{scripts_on};
+ghost use Rattle.script_runner.specs.turns.Seats.{scripts_on};
 ghost use Rattle.session_server.specs.Passes.{IsNew, number_of};
 ghost use Rattle.session_tasks.specs.Scripted.{AreDistinct};
 ghost use Rattle.session_tasks.specs.Served.{IsServed, IsCause};
 ghost use Rattle.session_tasks.specs.Errors.{IsFirstError};
 ghost use Rattle.session_tasks.specs.Tasks.{IsTask};
 ghost use Rattle.session_tasks.specs.declared.error.RunError.TheVariants.{OutOfMemory};
-ghost use Rattle.input_runner.specs.Runs.{IsSerialized};
+ghost use Rattle.script_runner.specs.Runs.{IsSerialized};
 ghost use Rattle.hall_runner.specs.Outcomes.{IsServedBy, IsServedOver, IsSerializedOver, AreSetUp, history_in};
 
 use crate::closing::closed;
@@ -19,14 +19,14 @@ use chain_pool::PooledChains;
 use engine_core::Engine;
 use input_reader::Input;
 use script_text::{Scripts, scripts_of};
-use session_pool::run_pool;
 use session_server::{Hall, Pass};
+use session_tasks::pool::run_pool;
+use session_tasks::threads::run_threads;
 use session_tasks::{Gate, RunError};
 use std::alloc::{AllocError, Global};
 use std::sync::Wait;
 use std::thread::Threads;
-use teb_names::SESSIONS;
-use thread_runner::run_threads;
+use teb_rules::names::SESSIONS;
 use version_chain::Chains;
 
 /// How the sessions get to the workers.

@@ -1,7 +1,7 @@
 -- What became of a request.
 use Rattle.std.specs.Prelude.{◌≡◌, List, Option, Some, None, Result, Ok, Err}
-use Rattle.teb_names.specs.declared.Reply.{Reply}
-use Rattle.teb_history.specs.declared.Event.{Event}
+use Rattle.teb_rules.specs.declared.names.Reply.{Reply}
+use Rattle.teb_rules.specs.declared.history.Event.{Event}
 use Rattle.hall_server.specs.declared.failure.Failure.{Failure}
 use Rattle.hall_server.specs.declared.failure.Failure.TheVariants.{Unasked, Unsure}
 

@@ -1,6 +1,6 @@
 //! Why a server gives no reply.
 
-use teb_names::Reply;
+use teb_rules::names::Reply;
 
 /// Why a request was not asked. Nothing has changed.
 #[derive(Clone, Copy, Debug, PartialEq, Eq)]

@@ -1,19 +1,19 @@
 //! The trait of what a hall serves.
 
 ghost use Rattle.std.specs.Prelude.{◌≡◌, List, IsErrOf};
-ghost use Rattle.teb_names.specs.declared.Reply.{Reply as TheReply};
-ghost use Rattle.teb_names.specs.declared.naming.NameBook.{NameBook as TheNames};
-ghost use Rattle.teb_history.specs.declared.Event.{Event};
+ghost use Rattle.teb_rules.specs.declared.names.Reply.{Reply as TheReply};
+ghost use Rattle.teb_rules.specs.declared.names.naming.NameBook.{NameBook as TheNames};
+ghost use Rattle.teb_rules.specs.declared.history.Event.{Event};
 ghost use Rattle.teb_rules.specs.Setup.{Store};
 ghost use Rattle.teb_rules.specs.Answer.{answer};
-ghost use Rattle.teb_laws.specs.Lawful.{Lawful};
+ghost use Rattle.teb_rules.specs.laws.Lawful.{Lawful};
 ghost use Rattle.hall_server.specs.Told.{events_after, told, IsToldBy};
 ghost use Rattle.hall_server.specs.declared.failure.Failure.TheVariants as failures;
 
 use crate::failure::Failure;
 use std::alloc::Global;
-use teb_history::History;
-use teb_names::{Reply, Request, Session};
+use teb_rules::history::History;
+use teb_rules::names::{Reply, Request, Session};
 
 /// Answers requests one after another as the rules do, unless it fails.
 pub trait Server {

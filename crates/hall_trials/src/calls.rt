@@ -1,7 +1,7 @@
 //! The calls of a hall, on one thread.
 
 ghost use Rattle.std.specs.Prelude.{◌≡◌, ◌≤◌, All, map};
-ghost use Rattle.teb_history.specs.Phases.{numbers};
+ghost use Rattle.teb_rules.specs.history.Phases.{numbers};
 ghost use Rattle.session_server.specs.Passes.{IsPassOf, IsNew, number_of};
 
 use crate::plain::{ANY, CELL, plain_hall};
@@ -9,8 +9,8 @@ use session_server::{Entries, Hall, Pass, Poll};
 use std::process::Abort;
 use std::sync::Wait;
 use std::test::Fail;
-use teb_history::{Event, History};
-use teb_names::{Kind, MOST_TXNS, Node, Outcome, Reply, Request, SESSIONS, Session, Txn};
+use teb_rules::history::{Event, History};
+use teb_rules::names::{Kind, MOST_TXNS, Node, Outcome, Reply, Request, SESSIONS, Session, Txn};
 use version_chain::Chains;
 
 fn expect_reply<C: Chains, R: Wait + Abort>(

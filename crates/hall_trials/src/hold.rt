@@ -4,7 +4,7 @@ use session_tasks::Gate;
 use std::sync::atomic::AtomicBool;
 use std::sync::atomic::Ordering::SeqCst;
 use std::thread;
-use teb_names::Session;
+use teb_rules::names::Session;
 
 /// How often the held session looks at most.
 const LOOKS: u32 = 10_000_000;

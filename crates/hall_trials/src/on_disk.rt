@@ -20,7 +20,7 @@ use std::sync::atomic::AtomicI64;
 use std::sync::atomic::Ordering::SeqCst;
 use std::test::Fail;
 use std::thread::{self, Threads};
-use teb_names::{Cell, Reply, Request, Rows, SESSIONS, Table};
+use teb_rules::names::{Cell, Reply, Request, Rows, SESSIONS, Table};
 use tree_toml::read_tree;
 
 /// How many transactions each session has.

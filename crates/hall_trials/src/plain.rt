@@ -1,7 +1,7 @@
 //! A hall over the plain tree: the table `t`, the type `any`, one locks leaf, and no rows.
 
 ghost use Rattle.std.specs.Prelude.{◌≡◌, All, map, IfOk};
-ghost use Rattle.teb_history.specs.Phases.{numbers};
+ghost use Rattle.teb_rules.specs.history.Phases.{numbers};
 ghost use Rattle.session_server.specs.Passes.{IsNew, number_of};
 
 use chain_pool::PooledChains;
@@ -10,7 +10,7 @@ use session_server::{Hall, Pass};
 use std::alloc::Global;
 use std::process::Abort;
 use std::test::Fail;
-use teb_names::{Cell, Kind, SESSIONS, Spot, Table};
+use teb_rules::names::{Cell, Kind, SESSIONS, Spot, Table};
 use tree_toml::read_tree;
 
 /// The type `any`.

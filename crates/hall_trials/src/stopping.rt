@@ -1,7 +1,7 @@
 //! A stop word, raised before a session is served.
 
 ghost use Rattle.std.specs.Prelude.{◌≡◌, All, map};
-ghost use Rattle.teb_history.specs.Phases.{numbers};
+ghost use Rattle.teb_rules.specs.history.Phases.{numbers};
 ghost use Rattle.session_server.specs.Passes.{IsPassOf, IsNew, number_of};
 
 use crate::hold::Unheld;
@@ -14,8 +14,8 @@ use std::process::Abort;
 use std::sync::Wait;
 use std::sync::atomic::AtomicIn;
 use std::test::Fail;
-use teb_history::History;
-use teb_names::{Request, SESSIONS, Session};
+use teb_rules::history::History;
+use teb_rules::names::{Request, SESSIONS, Session};
 use version_chain::Chains;
 
 fn line(number: u32, request: Request) -> Line {

@@ -9,9 +9,9 @@ use std::process::Abort;
 use std::sync::Wait;
 use std::test::Fail;
 use std::thread::Threads;
-use teb_history::Event;
 use teb_io::MemSource;
-use teb_names::Session;
+use teb_rules::history::Event;
+use teb_rules::names::Session;
 
 /// How many transactions each session has, where it has many.
 const MANY: usize = 100;

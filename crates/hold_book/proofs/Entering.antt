@@ -5,12 +5,12 @@ use Rattle.std.proofs.lemmas.List.{with_items_is}
 use Rattle.std.specs.Vec.{with_items}
 use Rattle.std.specs.declared.alloc.Global.{Global}
 use Rattle.std.specs.Option.{is_some}
-use Rattle.teb_names.specs.declared.Txn.{Txn}
-use Rattle.teb_names.specs.declared.Cell.{Cell}
-use Rattle.teb_names.specs.Cells.{same_cell, cell_cmp}
+use Rattle.teb_rules.specs.declared.names.Txn.{Txn}
+use Rattle.teb_rules.specs.declared.names.Cell.{Cell}
+use Rattle.teb_rules.specs.names.Cells.{same_cell, cell_cmp}
 use Rattle.sorted_multimap.specs.Multimap.{Shown, values_in}
-use Rattle.teb_names.proofs.SameCells.{same_cell-true}
-use Rattle.teb_names.proofs.Bools.{or_false}
+use Rattle.teb_rules.proofs.lemmas.names.SameCells.{same_cell-true}
+use Rattle.teb_rules.proofs.lemmas.names.Bools.{or_false}
 use Rattle.hold_book.specs.declared.Hold.{Hold}
 use Rattle.hold_book.specs.declared.slots.Alone.{Alone}
 use Rattle.hold_book.specs.Slots.{only_hold, only_or}

@@ -4,15 +4,15 @@ use Rattle.std.specs.Ordering.{is_eq}
 use Rattle.std.specs.Result.{is_err}
 use Rattle.std.proofs.lemmas.Bool.{cases_order, eq-eqb, ne_eqb}
 use Rattle.std.proofs.lemmas.List.{set-get_or}
-use Rattle.teb_names.specs.declared.Txn.{Txn}
-use Rattle.teb_names.specs.declared.Cell.{Cell}
-use Rattle.teb_names.specs.Cells.{same_cell, cell_cmp}
-use Rattle.teb_names.proofs.CellOrder.{same_cell-cell_cmp}
-use Rattle.teb_history.specs.Ascending.{AllAbove, IsAscendingBy, next_place, place_of, put_by}
-use Rattle.teb_history.proofs.AscendingLists.{place_below, place_here, place_above, put-set, ascending-put, ascending-filter}
+use Rattle.teb_rules.specs.declared.names.Txn.{Txn}
+use Rattle.teb_rules.specs.declared.names.Cell.{Cell}
+use Rattle.teb_rules.specs.names.Cells.{same_cell, cell_cmp}
+use Rattle.teb_rules.proofs.lemmas.names.CellOrder.{same_cell-cell_cmp}
+use Rattle.teb_rules.specs.history.Ascending.{AllAbove, IsAscendingBy, next_place, place_of, put_by}
+use Rattle.teb_rules.proofs.lemmas.history.AscendingLists.{place_below, place_here, place_above, put-set, ascending-put, ascending-filter}
 use Rattle.sorted_multimap.specs.Multimap.{Shown, values_in}
-use Rattle.teb_names.proofs.SameCells.{same_cell-true}
-use Rattle.teb_names.proofs.Bools.{or_false}
+use Rattle.teb_rules.proofs.lemmas.names.SameCells.{same_cell-true}
+use Rattle.teb_rules.proofs.lemmas.names.Bools.{or_false}
 use Rattle.hold_book.specs.declared.Hold.{Hold}
 use Rattle.hold_book.specs.Books.{hold_number, has_put, accessed, released, IsFiled}
 

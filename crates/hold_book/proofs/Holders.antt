@@ -1,30 +1,30 @@
 -- The holders of a cell after one more event.
 use Rattle.std.proofs.Common.{◌≡◌, ◌≢◌, ℕ, ℤ, suc, Bool, true, false, cond, not, eqb, ◌&&◌, ◌||◌, List, [], ◌∷◌, ◌++◌, ◌⊎◌, filter, map, Option, refl, sym, ◌∙◌, ap, subst, arith, inl, inr, lt-ltb, le-ltb}
 use Rattle.std.proofs.lemmas.Bool.{cases_Bool, cases_eq, cases_order, both_ways, and_from, or_left, or_right, eq-eqb, ne_eqb}
-use Rattle.teb_names.specs.declared.Txn.{Txn}
-use Rattle.teb_names.specs.declared.Session.{Session}
-use Rattle.teb_names.specs.declared.Kind.{Kind}
-use Rattle.teb_names.specs.declared.Cause.{Cause}
-use Rattle.teb_names.specs.declared.Cell.{Cell}
-use Rattle.teb_names.specs.Cells.{same_cell}
-use Rattle.teb_history.specs.declared.Event.{Event}
-use Rattle.teb_history.specs.declared.Event.TheVariants.{Began, Got, Put, Ready, Done, Gone, Told}
-use Rattle.teb_history.specs.Phases.{begun, committed, aborted, unfinished, begun_count, numbers, txns, spot_of}
-use Rattle.teb_history.specs.Accesses.{wrote, got}
-use Rattle.teb_history.specs.Ascending.{AllAbove, IsAscendingBy, put_by}
-use Rattle.teb_history.proofs.AscendingLists.{ascending-filter, filter-put_in, above-mono}
+use Rattle.teb_rules.specs.declared.names.Txn.{Txn}
+use Rattle.teb_rules.specs.declared.names.Session.{Session}
+use Rattle.teb_rules.specs.declared.names.Kind.{Kind}
+use Rattle.teb_rules.specs.declared.names.Cause.{Cause}
+use Rattle.teb_rules.specs.declared.names.Cell.{Cell}
+use Rattle.teb_rules.specs.names.Cells.{same_cell}
+use Rattle.teb_rules.specs.declared.history.Event.{Event}
+use Rattle.teb_rules.specs.declared.history.Event.TheVariants.{Began, Got, Put, Ready, Done, Gone, Told}
+use Rattle.teb_rules.specs.history.Phases.{begun, committed, aborted, unfinished, begun_count, numbers, txns, spot_of}
+use Rattle.teb_rules.specs.history.Accesses.{wrote, got}
+use Rattle.teb_rules.specs.history.Ascending.{AllAbove, IsAscendingBy, put_by}
+use Rattle.teb_rules.proofs.lemmas.history.AscendingLists.{ascending-filter, filter-put_in, above-mono}
 use Rattle.teb_rules.specs.Setup.{Setup}
 use Rattle.teb_rules.specs.Tree.{on, on_path}
 use Rattle.teb_rules.specs.Serializes.{In}
-use Rattle.teb_laws.proofs.AscendingNumbers.{number, numbers_ascending, above_in}
-use Rattle.teb_laws.proofs.Locks.{In-numbers}
-use Rattle.teb_laws.proofs.Holding.{unfinished_same}
+use Rattle.teb_rules.proofs.lemmas.laws.AscendingNumbers.{number, numbers_ascending, above_in}
+use Rattle.teb_rules.proofs.lemmas.laws.Locks.{In-numbers}
+use Rattle.teb_rules.proofs.lemmas.laws.Holding.{unfinished_same}
 use Rattle.hold_book.specs.declared.Hold.{Hold}
-use Rattle.teb_names.proofs.SameCells.{same_cell-true, same_itself}
-use Rattle.teb_names.proofs.Bools.{or_true, eqb_swap}
+use Rattle.teb_rules.proofs.lemmas.names.SameCells.{same_cell-true, same_itself}
+use Rattle.teb_rules.proofs.lemmas.names.Bools.{or_true, eqb_swap}
 use Rattle.hold_book.specs.Books.{Held, shown, hold_number, has_put, accessed, released}
 use Rattle.hold_book.specs.Holders.{holds, hold_of, holds_in, HoldsOf, MayHold, LeavesHolds}
-use Rattle.teb_history.proofs.Newest.{wrote-cons, got-cons, unfinished-cons}
+use Rattle.teb_rules.proofs.lemmas.history.Newest.{wrote-cons, got-cons, unfinished-cons}
 
 put_itself : (t : ℕ) (us : List ℕ) → IsAscendingBy number us → In t us → put_by number t us ≡ us
 put_itself t [] h i = absurd i

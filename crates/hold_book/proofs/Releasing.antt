@@ -1,22 +1,22 @@
 -- The release of the holds of a transaction that finishes, event by event.
 use Rattle.std.proofs.Common.{◌≡◌, ℕ, ℤ, Bool, true, false, cond, not, eqb, ◌||◌, is_some, List, [], ◌∷◌, ◌⊎◌, Option, Some, None, refl, sym, ◌∙◌, ap, inl, inr}
 use Rattle.std.specs.List.{list_any}
-use Rattle.teb_names.specs.declared.Cell.{Cell}
-use Rattle.teb_names.specs.declared.Txn.{Txn}
-use Rattle.teb_names.specs.declared.Cause.{Cause}
-use Rattle.teb_names.specs.Cells.{same_cell}
-use Rattle.teb_history.specs.declared.Event.{Event}
-use Rattle.teb_history.specs.declared.Event.TheVariants.{Got, Put, Done, Gone}
-use Rattle.teb_history.specs.OwnEvents.{own_events, put_in, got_in}
-use Rattle.teb_history.specs.Accesses.{wrote, got}
-use Rattle.teb_history.proofs.OwnWalks.{wrote_own, got_own}
-use Rattle.teb_history.proofs.Newest.{wrote-cons, got-cons}
+use Rattle.teb_rules.specs.declared.names.Cell.{Cell}
+use Rattle.teb_rules.specs.declared.names.Txn.{Txn}
+use Rattle.teb_rules.specs.declared.names.Cause.{Cause}
+use Rattle.teb_rules.specs.names.Cells.{same_cell}
+use Rattle.teb_rules.specs.declared.history.Event.{Event}
+use Rattle.teb_rules.specs.declared.history.Event.TheVariants.{Got, Put, Done, Gone}
+use Rattle.teb_rules.specs.history.OwnEvents.{own_events, put_in, got_in}
+use Rattle.teb_rules.specs.history.Accesses.{wrote, got}
+use Rattle.teb_rules.proofs.lemmas.history.OwnWalks.{wrote_own, got_own}
+use Rattle.teb_rules.proofs.lemmas.history.Newest.{wrote-cons, got-cons}
 use Rattle.teb_rules.specs.Setup.{Setup}
 use Rattle.hold_book.specs.declared.Hold.{Hold}
 use Rattle.hold_book.specs.Books.{Held, shown, released}
 use Rattle.hold_book.specs.Holders.{HoldsOf}
 use Rattle.hold_book.proofs.Holders.{stands_done, stands_gone, released_off, holder_accessed}
-use Rattle.teb_names.proofs.SameCells.{same_cell-true}
+use Rattle.teb_rules.proofs.lemmas.names.SameCells.{same_cell-true}
 
 -- the event is an access of x
 abbrev pub is_access : Cell → Event → Bool

@@ -2,10 +2,10 @@
 use Rattle.std.specs.Prelude.{◌≡◌, ◌<◌, ◌≤◌, ◌+◌, ℕ, Bool, not, ◌&&◌, ◌||◌, eqb, List, [], filter, length, Option, IsTrue}
 use Rattle.std.specs.Option.{is_some}
 use Rattle.std.specs.List.{list_any}
-use Rattle.teb_names.specs.declared.Txn.{Txn}
-use Rattle.teb_names.specs.declared.Cell.{Cell}
-use Rattle.teb_names.specs.Cells.{cell_cmp}
-use Rattle.teb_history.specs.Ascending.{IsAscendingBy, put_by}
+use Rattle.teb_rules.specs.declared.names.Txn.{Txn}
+use Rattle.teb_rules.specs.declared.names.Cell.{Cell}
+use Rattle.teb_rules.specs.names.Cells.{cell_cmp}
+use Rattle.teb_rules.specs.history.Ascending.{IsAscendingBy, put_by}
 use Rattle.sorted_multimap.specs.Multimap.{Shown, values_in}
 use Rattle.hold_book.specs.declared.Hold.{Hold}
 use Rattle.hold_book.specs.declared.slots.Alone.{Alone}

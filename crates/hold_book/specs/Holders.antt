@@ -1,10 +1,10 @@
 -- The holders of a cell at a node, by the history.
 use Rattle.std.specs.Prelude.{◌≡◌, ◌<◌, ◌≤◌, ℕ, suc, Bool, false, ◌&&◌, ◌||◌, List, filter, map, IsTrue, IsFalse}
-use Rattle.teb_names.specs.declared.Cell.{Cell}
-use Rattle.teb_history.specs.declared.Event.{Event}
-use Rattle.teb_history.specs.declared.Event.TheVariants.{Began, Got, Put, Ready, Done, Gone, Told}
-use Rattle.teb_history.specs.Phases.{txns, begun_count, unfinished}
-use Rattle.teb_history.specs.Accesses.{wrote, got}
+use Rattle.teb_rules.specs.declared.names.Cell.{Cell}
+use Rattle.teb_rules.specs.declared.history.Event.{Event}
+use Rattle.teb_rules.specs.declared.history.Event.TheVariants.{Began, Got, Put, Ready, Done, Gone, Told}
+use Rattle.teb_rules.specs.history.Phases.{txns, begun_count, unfinished}
+use Rattle.teb_rules.specs.history.Accesses.{wrote, got}
 use Rattle.teb_rules.specs.Setup.{Setup}
 use Rattle.teb_rules.specs.Tree.{on}
 use Rattle.hold_book.specs.declared.Hold.{Hold}

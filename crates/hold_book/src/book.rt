@@ -1,12 +1,12 @@
 //! The book of holds.
 
 ghost use Rattle.std.specs.Prelude.{◌≡◌, ◌<◌, ◌≤◌, ◌+◌, ◌||◌, ℕ, ℤ, List, Option, [], ◌∷◌, cond, OnOk, IsTrue, IsFalse};
-ghost use Rattle.teb_names.specs.declared.Cell.{Cell};
-ghost use Rattle.teb_names.specs.declared.Txn.{Txn};
-ghost use Rattle.teb_names.specs.Cells.{same_cell};
-ghost use Rattle.teb_history.specs.declared.Event.{Event};
-ghost use Rattle.teb_history.specs.declared.Event.TheVariants.{Got, Put};
-ghost use Rattle.teb_history.specs.Accesses.{wrote, got};
+ghost use Rattle.teb_rules.specs.declared.names.Cell.{Cell};
+ghost use Rattle.teb_rules.specs.declared.names.Txn.{Txn};
+ghost use Rattle.teb_rules.specs.names.Cells.{same_cell};
+ghost use Rattle.teb_rules.specs.declared.history.Event.{Event};
+ghost use Rattle.teb_rules.specs.declared.history.Event.TheVariants.{Got, Put};
+ghost use Rattle.teb_rules.specs.history.Accesses.{wrote, got};
 ghost use Rattle.teb_rules.specs.Setup.{Setup};
 ghost use Rattle.hold_book.specs.Books.{shown, accessed, released};
 ghost use Rattle.hold_book.specs.Holders.{HoldsOf, MayHold};
@@ -17,8 +17,8 @@ use crate::slots::{Alone, make_slots, only_list};
 use sorted_multimap::Multimap;
 use std::alloc::{AllocError, Global};
 use std::marker::Model;
-use teb_history::{Event, History};
-use teb_names::{Cell, Txn};
+use teb_rules::history::{Event, History};
+use teb_rules::names::{Cell, Txn};
 
 /// A book makes room for at least this many accesses.
 const AHEAD: usize = 64;

@@ -1,8 +1,8 @@
 //! What an access enters, and what a release removes.
 
 ghost use Rattle.std.specs.Prelude.{◌≡◌, ◌≤◌, ◌+◌, cond, length, Some};
-ghost use Rattle.teb_names.specs.declared.Cell.{Cell};
-ghost use Rattle.teb_names.specs.Cells.{same_cell};
+ghost use Rattle.teb_rules.specs.declared.names.Cell.{Cell};
+ghost use Rattle.teb_rules.specs.names.Cells.{same_cell};
 ghost use Rattle.hold_book.specs.Books.{IsApart, shown_in, accessed, released};
 ghost use Rattle.hold_book.specs.Slots.{only_hold as spec_only_hold};
 
@@ -10,7 +10,7 @@ use crate::Hold;
 use crate::filed::{join_in, put_in, take_out};
 use crate::slots::{Alone, clear, only_hold, take, take_free};
 use sorted_multimap::Multimap;
-use teb_names::{Cell, Txn};
+use teb_rules::names::{Cell, Txn};
 
 /// Notes that a transaction has accessed a cell, and whether it put it. A cell that no transaction holds goes to its slot, if that is free.
 #[inline(always)]

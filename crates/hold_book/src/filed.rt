@@ -1,14 +1,14 @@
 //! Holds filed by cell.
 
 ghost use Rattle.std.specs.Prelude.{◌≡◌, ◌<◌, ◌≤◌, ◌+◌, ◌==◌, cond, length, not, IsTrue, IsFalse};
-ghost use Rattle.teb_names.specs.declared.Cell.{Cell};
-ghost use Rattle.teb_names.specs.Cells.{same_cell, cell_cmp};
+ghost use Rattle.teb_rules.specs.declared.names.Cell.{Cell};
+ghost use Rattle.teb_rules.specs.names.Cells.{same_cell, cell_cmp};
 ghost use Rattle.sorted_multimap.specs.Multimap.{values_in};
 ghost use Rattle.hold_book.specs.Books.{IsFiled, accessed, released};
 
 use crate::Hold;
 use sorted_multimap::Multimap;
-use teb_names::{Cell, Txn};
+use teb_rules::names::{Cell, Txn};
 
 /// Files that a transaction has accessed a cell, and whether it put it. It takes at most one place of the room.
 #[inline(never)]

@@ -31,7 +31,7 @@ mod slots;
 
 pub use book::HoldBook;
 use sorted_multimap::Numbered;
-use teb_names::Txn;
+use teb_rules::names::Txn;
 
 /// A transaction that has accessed a cell, and whether it has put it.
 #[derive(Clone, Copy, Debug, PartialEq, Eq)]

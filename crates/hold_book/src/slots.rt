@@ -2,13 +2,13 @@
 
 ghost use Rattle.std.specs.Prelude.{◌≡◌, ◌<◌, ◌≤◌, [], cond, length, Some, None, IsTrue, IsFalse, OnOk};
 ghost use Rattle.std.specs.Option.{is_some, is_none};
-ghost use Rattle.teb_names.specs.declared.Cell.{Cell};
-ghost use Rattle.teb_names.specs.Cells.{same_cell};
+ghost use Rattle.teb_rules.specs.declared.names.Cell.{Cell};
+ghost use Rattle.teb_rules.specs.names.Cells.{same_cell};
 ghost use Rattle.hold_book.specs.Slots.{slot_of as spec_slot_of, slot_at, is_open, only_hold as spec_only_hold, only_or};
 
 use crate::Hold;
 use std::alloc::AllocError;
-use teb_names::Cell;
+use teb_rules::names::Cell;
 
 /// How many slots there are.
 const SLOTS: usize = 1024;

@@ -22,7 +22,7 @@ ghost use Rattle.line_words.specs.Words.{word_text};
 
 use itoa::Buffer;
 use std::alloc::AllocError;
-use teb_names::{Names, Txn};
+use teb_rules::names::{Names, Txn};
 
 /// A word of a line.
 #[derive(Clone, Copy)]

@@ -1,12 +1,12 @@
 -- The verdicts of a locks node.
 use Rattle.std.proofs.Common.{◌≡◌, ℕ, Bool, ltb, List, find, Option, Some, None, refl, ◌∙◌}
-use Rattle.teb_names.specs.declared.Cell.{Cell}
-use Rattle.teb_names.specs.declared.Spot.{Spot}
-use Rattle.teb_names.specs.declared.ControlKind.TheVariants.{Locks}
-use Rattle.teb_history.specs.declared.Event.{Event}
-use Rattle.teb_history.specs.Phases.{txns, committed}
-use Rattle.teb_history.specs.Accesses.{put_at}
-use Rattle.teb_history.proofs.LeastNumbers.{nobody}
+use Rattle.teb_rules.specs.declared.names.Cell.{Cell}
+use Rattle.teb_rules.specs.declared.names.Spot.{Spot}
+use Rattle.teb_rules.specs.declared.names.ControlKind.TheVariants.{Locks}
+use Rattle.teb_rules.specs.declared.history.Event.{Event}
+use Rattle.teb_rules.specs.history.Phases.{txns, committed}
+use Rattle.teb_rules.specs.history.Accesses.{put_at}
+use Rattle.teb_rules.proofs.lemmas.history.LeastNumbers.{nobody}
 use Rattle.teb_rules.specs.Setup.{Setup}
 use Rattle.teb_rules.specs.Tree.{row}
 use Rattle.teb_rules.specs.Versions.{sees_by, orders}

@@ -1,6 +1,6 @@
 -- What a locks control shows of itself.
 use Rattle.std.specs.Prelude.{ℕ, List}
-use Rattle.teb_history.specs.declared.Event.{Event}
+use Rattle.teb_rules.specs.declared.history.Event.{Event}
 use Rattle.teb_rules.specs.Setup.{Setup}
 use Rattle.access_conflicts.specs.Registered.{register_spare}
 use Rattle.nexus_locks.specs.Standing.{LocksStand}

@@ -1,7 +1,7 @@
 -- Which history a locks control stands for.
 use Rattle.std.specs.Prelude.{◌≡◌, List}
-use Rattle.teb_history.specs.declared.Event.{Event}
-use Rattle.teb_names.specs.declared.ControlKind.TheVariants.{Locks}
+use Rattle.teb_rules.specs.declared.history.Event.{Event}
+use Rattle.teb_rules.specs.declared.names.ControlKind.TheVariants.{Locks}
 use Rattle.teb_rules.specs.Setup.{Setup}
 use Rattle.teb_rules.specs.Tree.{row}
 use Rattle.access_conflicts.specs.Registered.{Registered}

@@ -1,8 +1,8 @@
 //! The control of a locks node: a read waits for a transaction that has put the cell, and a write for one that has accessed it.
 
 ghost use Rattle.std.specs.Prelude.{◌≡◌, [], find};
-ghost use Rattle.teb_names.specs.declared.ControlKind.TheVariants.{Locks as IsLocks};
-ghost use Rattle.teb_history.specs.Phases.{txns};
+ghost use Rattle.teb_rules.specs.declared.names.ControlKind.TheVariants.{Locks as IsLocks};
+ghost use Rattle.teb_rules.specs.history.Phases.{txns};
 ghost use Rattle.teb_rules.specs.Tree.{row};
 ghost use Rattle.teb_rules.specs.Controls.{blocks};
 ghost use Rattle.phase_api.specs.FactsView.{setup_of, events_of};
@@ -15,9 +15,9 @@ use access_conflicts::{HoldRegister, is_in_the_way, wait_for};
 use hold_book::Hold;
 use phase_api::{Control, Facts};
 use std::alloc::{AllocError, Global};
-use teb_history::Event;
-use teb_names::{Cell, Node, Spot, Txn};
 use teb_rules::Verdict;
+use teb_rules::history::Event;
+use teb_rules::names::{Cell, Node, Spot, Txn};
 use version_chain::Chains;
 
 /// The locks control of a node.

@@ -1,7 +1,7 @@
 -- How a command ends: what of its text was written.
 use Rattle.std.specs.Prelude.{◌≡◌, ◌⊎◌, ℕ, List, Option}
 use Rattle.std.specs.Io.KnownBytes.{Appends}
-use Rattle.teb_history.specs.Written.{Written}
+use Rattle.teb_rules.specs.history.Written.{Written}
 use Rattle.teb_io.specs.Bytes.{AppendsFront}
 use Rattle.command_output.specs.Shown.{Shown, events_of}
 

@@ -10,8 +10,8 @@ use crate::WrittenOutput;
 use command_output::Output;
 use command_output::status::{OUT_OF_MEMORY, WRITE_FAULT};
 use std::alloc::AllocError;
-use teb_history::History;
 use teb_io::{Sink, write_whole};
+use teb_rules::history::History;
 
 /// Ends with a status, with nothing to write and nothing to keep.
 pub fn silent(status: u8) -> WrittenOutput

@@ -1,6 +1,6 @@
 //! What is kept of an output after it is written.
 
-use teb_history::History;
+use teb_rules::history::History;
 
 /// What is kept of a command's output after it is written.
 #[derive(Drop)]

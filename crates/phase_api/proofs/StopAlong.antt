@@ -1,13 +1,13 @@
 -- The stop along a list of nodes, as a loop over their verdicts finds it.
 use Rattle.std.proofs.Common.{◌≡◌, ℕ, zero, suc, ◌<◌, ◌≤◌, ◌+◌, List, [], ◌∷◌, length, get_or, drop, arith, refl, sym, ap, ◌∙◌}
 use Rattle.std.proofs.Math.Seq.{drop-cons}
-use Rattle.teb_names.specs.declared.Node.{Node}
+use Rattle.teb_rules.specs.declared.names.Node.{Node}
 use Rattle.teb_rules.specs.declared.Verdict.{Verdict}
 use Rattle.teb_rules.specs.declared.Verdict.TheVariants.{Go, Wait, Break}
 use Rattle.teb_rules.specs.declared.Stop.{Stop}
 use Rattle.teb_rules.specs.declared.Stop.TheVariants as stop
 use Rattle.teb_rules.specs.Stops.{stop_with, stop_of}
-use Rattle.cc_tree.specs.Grown.{node_numbers}
+use Rattle.store_setup.specs.tree.Grown.{node_numbers}
 
 -- if node i goes on, the nodes from i + 1 on decide
 pub stop_next : (f : ℕ → Verdict) (ns : List Node) (i : ℕ) (d : Node) (v : Verdict) → i < length ns → v ≡ f (get_or ns i d).0 → v ≡ Go → stop_of f (node_numbers (drop i ns)) ≡ stop_of f

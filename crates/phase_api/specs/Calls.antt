@@ -1,13 +1,13 @@
 -- The conditions of the calls of a control.
 use Rattle.std.specs.Prelude.{◌≡◌, ◌<◌, ◌∷◌, ◌||◌, ℕ, suc, List, IsTrue, IsFalse, is_some, drop}
-use Rattle.teb_names.specs.declared.Cell.{Cell}
-use Rattle.teb_names.specs.declared.Kind.{Kind}
-use Rattle.teb_names.specs.declared.Session.{Session}
-use Rattle.teb_names.specs.declared.Txn.{Txn}
-use Rattle.teb_history.specs.declared.Event.{Event}
-use Rattle.teb_history.specs.declared.Event.TheVariants.{Began, Got, Put, Ready, Done, Gone, Told}
-use Rattle.teb_history.specs.Phases.{begun_count, unfinished, prepared, aborted, kind_of}
-use Rattle.teb_history.specs.Accesses.{wrote}
+use Rattle.teb_rules.specs.declared.names.Cell.{Cell}
+use Rattle.teb_rules.specs.declared.names.Kind.{Kind}
+use Rattle.teb_rules.specs.declared.names.Session.{Session}
+use Rattle.teb_rules.specs.declared.names.Txn.{Txn}
+use Rattle.teb_rules.specs.declared.history.Event.{Event}
+use Rattle.teb_rules.specs.declared.history.Event.TheVariants.{Began, Got, Put, Ready, Done, Gone, Told}
+use Rattle.teb_rules.specs.history.Phases.{begun_count, unfinished, prepared, aborted, kind_of}
+use Rattle.teb_rules.specs.history.Accesses.{wrote}
 use Rattle.teb_rules.specs.Setup.{Setup, profile}
 use Rattle.teb_rules.specs.Tree.{on, on_path, meets}
 use Rattle.teb_rules.specs.Steps.{least_step, cursor}

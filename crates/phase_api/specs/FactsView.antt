@@ -1,9 +1,9 @@
 -- What facts tell, in the words of the rules.
 use Rattle.std.specs.Prelude.{◌<◌, ◌≤◌, ℕ, List, IsTrue}
-use Rattle.teb_names.specs.declared.Cell.{Cell}
-use Rattle.teb_history.specs.declared.Event.{Event}
-use Rattle.teb_history.specs.Phases.{begun, kind_of, begun_count}
-use Rattle.teb_history.specs.Accesses.{wrote, got}
+use Rattle.teb_rules.specs.declared.names.Cell.{Cell}
+use Rattle.teb_rules.specs.declared.history.Event.{Event}
+use Rattle.teb_rules.specs.history.Phases.{begun, kind_of, begun_count}
+use Rattle.teb_rules.specs.history.Accesses.{wrote, got}
 use Rattle.teb_rules.specs.Setup.{Setup}
 use Rattle.phase_api.specs.declared.facts.Facts.{Facts}
 

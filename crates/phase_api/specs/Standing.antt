@@ -1,6 +1,6 @@
 -- The controls of all nodes of a tree.
 use Rattle.std.specs.Prelude.{◌≡◌, ℕ, List, length, slice_get, Some}
-use Rattle.teb_history.specs.declared.Event.{Event}
+use Rattle.teb_rules.specs.declared.history.Event.{Event}
 use Rattle.teb_rules.specs.Setup.{Setup}
 
 -- there is a control for each node; that of node n is the n-th, and stands for the history

@@ -1,12 +1,12 @@
 -- What it means that chains hold the versions of a history.
 use Rattle.std.specs.Prelude.{◌≡◌, ◌⊎◌, ◌≤◌, ◌<◌, ℕ, Bool, true, false, not, ◌&&◌, eqb, List, [], ◌∷◌, length, slice_get, Option, Some, None, IsTrue, IsFalse}
 use Rattle.std.specs.List.{list_any}
-use Rattle.teb_names.specs.declared.Cell.{Cell}
-use Rattle.teb_names.specs.Cells.{same_cell}
-use Rattle.teb_history.specs.declared.Event.{Event}
-use Rattle.teb_history.specs.declared.Event.TheVariants.{Got}
-use Rattle.teb_history.specs.Phases.{aborted}
-use Rattle.teb_history.specs.Accesses.{wrote, last_put}
+use Rattle.teb_rules.specs.declared.names.Cell.{Cell}
+use Rattle.teb_rules.specs.names.Cells.{same_cell}
+use Rattle.teb_rules.specs.declared.history.Event.{Event}
+use Rattle.teb_rules.specs.declared.history.Event.TheVariants.{Got}
+use Rattle.teb_rules.specs.history.Phases.{aborted}
+use Rattle.teb_rules.specs.history.Accesses.{wrote, last_put}
 use Rattle.teb_rules.specs.Setup.{Setup}
 use Rattle.teb_rules.specs.Tree.{row, is_timestamp}
 use Rattle.teb_rules.specs.Versions.{precedes}

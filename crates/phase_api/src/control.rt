@@ -1,8 +1,8 @@
 //! The trait of controls.
 
 ghost use Rattle.std.specs.Prelude.{◌≡◌, ◌<◌, ◌≤◌, ◌+◌, ℕ, List, drop, OnOk, IsTrue, true, false, find};
-ghost use Rattle.teb_history.specs.declared.Event.{Event};
-ghost use Rattle.teb_history.specs.Phases.{unfinished, txns};
+ghost use Rattle.teb_rules.specs.declared.history.Event.{Event};
+ghost use Rattle.teb_rules.specs.history.Phases.{unfinished, txns};
 ghost use Rattle.teb_rules.specs.Setup.{Setup};
 ghost use Rattle.teb_rules.specs.Tree.{row, on_path};
 ghost use Rattle.teb_rules.specs.Accepted.{IsSound};
@@ -10,7 +10,7 @@ ghost use Rattle.teb_rules.specs.Verdicts.{wait_for};
 ghost use Rattle.teb_rules.specs.Versions.{sees_by, orders};
 ghost use Rattle.teb_rules.specs.Controls.{on_access, validate, gate};
 ghost use Rattle.teb_rules.specs.Stops.{on_begin};
-ghost use Rattle.teb_laws.specs.Lawful.{Lawful};
+ghost use Rattle.teb_rules.specs.laws.Lawful.{Lawful};
 ghost use Rattle.version_chain.specs.Lists.{writers_of};
 ghost use Rattle.phase_api.specs.FactsView.{setup_of, events_of, IsOrderly};
 ghost use Rattle.phase_api.specs.Calls.{IsHere, IsAccess, IsPair, Writes, IsNewest};
@@ -18,9 +18,9 @@ ghost use Rattle.phase_api.specs.Versions.{HoldsVersions, IsToldPlace, SourcesSt
 
 use crate::facts::Facts;
 use std::alloc::AllocError;
-use teb_history::Event;
-use teb_names::{Cell, Node, Spot, Txn};
 use teb_rules::Verdict;
+use teb_rules::history::Event;
+use teb_rules::names::{Cell, Node, Spot, Txn};
 use version_chain::Chains;
 
 /// The control of one node. It regulates transactions that meet there, and says nothing of others. Contracts see which setup and

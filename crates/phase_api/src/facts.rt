@@ -2,10 +2,10 @@
 
 ghost use Rattle.std.specs.Prelude.{◌≡◌, ◌↔◌, ◌&&◌, not, eqb, cond, Some, None, IfSome, IsSome, IsTrue};
 
-use cc_tree::Tree;
-use teb_history::History;
-use teb_names::{Node, Spot, Txn};
-use txn_profile::Profile;
+use store_setup::profile::Profile;
+use store_setup::tree::Tree;
+use teb_rules::history::History;
+use teb_rules::names::{Node, Spot, Txn};
 
 /// The history, and what the setup says of types: the tree, and the profile of each type.
 #[derive(Drop)]
@@ -17,7 +17,7 @@ pub struct Facts<'a> {
 
 #[tactic(auto, unfolding(teb_rules::specs::Tree::on, teb_rules::specs::Tree::side, teb_rules::specs::Tree::meets))]
 impl<'a> Facts<'a> {
-    ghost use Rattle.teb_history.specs.Phases.{begun, spot_of};
+    ghost use Rattle.teb_rules.specs.history.Phases.{begun, spot_of};
     ghost use Rattle.teb_rules.specs.Tree.{on, side, meets};
     ghost use Rattle.phase_api.specs.FactsView.{setup_of, events_of, IsTyped};
 

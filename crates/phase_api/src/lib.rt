@@ -21,7 +21,7 @@
 //! A control regulates only transactions that meet at its node. It keeps what it likes; `reserve` makes room for events, so that
 //! `note` takes no memory. `docs/ADDING_A_CONTROL.md` says how to write one.
 //!
-//! **Not claimed**: that the questions suffice for a correct store. That is a law of the rules (`teb_laws`), not of the trait.
+//! **Not claimed**: that the questions suffice for a correct store. That is a law of the rules (`teb_rules::laws`), not of the trait.
 #![tactic(auto)]
 
 mod control;

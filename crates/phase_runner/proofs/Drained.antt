@@ -2,34 +2,34 @@
 use Rattle.std.proofs.Common.{◌≡◌, ◌≢◌, ◌⊎◌, ℕ, ◌<◌, ◌≤◌, Bool, true, false, cond, ◌&&◌, leb, List, [], ◌∷◌, map, filter, is_some, Option, Some, None, refl, sym, ◌∙◌, ap, subst, inl, inr, arith, eqb-true, le-leb}
 use Rattle.std.specs.Prelude.{unwrap_or}
 use Rattle.std.proofs.lemmas.Bool.{both_ways, cases_eq, false_from_ne_true, and_parts}
-use Rattle.teb_names.specs.declared.TheConstants.{SESSIONS}
-use Rattle.teb_names.specs.declared.Session.{Session}
-use Rattle.teb_names.specs.declared.Request.{Request}
-use Rattle.teb_names.specs.declared.Request.TheVariants.{End}
-use Rattle.teb_names.specs.declared.Cause.TheVariants.{Asked, Ended}
-use Rattle.teb_names.specs.declared.Reply.{Reply}
-use Rattle.teb_names.specs.declared.Reply.TheVariants.{Aborted}
-use Rattle.teb_history.specs.declared.Event.{Event}
-use Rattle.teb_history.specs.declared.Event.TheVariants.{Told}
-use Rattle.teb_history.specs.Phases.{aborted, cause_of, held, numbers, session_of, unfinished}
+use Rattle.teb_rules.specs.declared.names.TheConstants.{SESSIONS}
+use Rattle.teb_rules.specs.declared.names.Session.{Session}
+use Rattle.teb_rules.specs.declared.names.Request.{Request}
+use Rattle.teb_rules.specs.declared.names.Request.TheVariants.{End}
+use Rattle.teb_rules.specs.declared.names.Cause.TheVariants.{Asked, Ended}
+use Rattle.teb_rules.specs.declared.names.Reply.{Reply}
+use Rattle.teb_rules.specs.declared.names.Reply.TheVariants.{Aborted}
+use Rattle.teb_rules.specs.declared.history.Event.{Event}
+use Rattle.teb_rules.specs.declared.history.Event.TheVariants.{Told}
+use Rattle.teb_rules.specs.history.Phases.{aborted, cause_of, held, numbers, session_of, unfinished}
 use Rattle.teb_rules.specs.Setup.{Store}
 use Rattle.teb_rules.specs.Accepted.{IsSound}
 use Rattle.teb_rules.specs.Answer.{answer, answer_new, answer_of, answer_to}
 use Rattle.teb_rules.specs.Cascade.{txn}
 use Rattle.teb_rules.specs.Run.{history_after, ends_of}
 use Rattle.teb_rules.specs.Serializes.{In}
-use Rattle.teb_laws.specs.TreeFacts.{TreeFacts}
-use Rattle.teb_laws.proofs.Answers.{Good}
-use Rattle.teb_laws.proofs.Holding.{Holds, held_began, held_holds, holds_abort_other, holds_abort_self, holds_cases, holds_told, holds_told_self, none_holds}
-use Rattle.teb_laws.proofs.Locks.{In-numbers}
-use Rattle.teb_laws.proofs.Reachable.{answer_good, empty_good, run_good, untold_gone}
-use Rattle.teb_laws.proofs.Serial.{In-filter, filter-In}
-use Rattle.teb_laws.proofs.Sessions.{holds_one, session_range}
-use Rattle.teb_laws.proofs.Sound.{tree_facts}
+use Rattle.teb_rules.specs.laws.TreeFacts.{TreeFacts}
+use Rattle.teb_rules.proofs.lemmas.laws.Answers.{Good}
+use Rattle.teb_rules.proofs.lemmas.laws.Holding.{Holds, held_began, held_holds, holds_abort_other, holds_abort_self, holds_cases, holds_told, holds_told_self, none_holds}
+use Rattle.teb_rules.proofs.lemmas.laws.Locks.{In-numbers}
+use Rattle.teb_rules.proofs.lemmas.laws.Reachable.{answer_good, empty_good, run_good, untold_gone}
+use Rattle.teb_rules.proofs.lemmas.laws.Serial.{In-filter, filter-In}
+use Rattle.teb_rules.proofs.lemmas.laws.Sessions.{holds_one, session_range}
+use Rattle.teb_rules.proofs.lemmas.laws.Sound.{tree_facts}
 use Rattle.driver_laws.proofs.Bound.{unfinished_holds}
 use Rattle.script_text.specs.declared.Line.{Line}
-use Rattle.replay_runner.specs.Logs.{replayed, requests_of}
-use Rattle.replay_runner.proofs.Logged.{history_append}
+use Rattle.script_runner.specs.replay.Logs.{replayed, requests_of}
+use Rattle.script_runner.proofs.lemmas.replay.Logged.{history_append}
 use Rattle.tree_switch.specs.Refusals.{IsDrained}
 
 -- session s holds nothing

@@ -1,15 +1,15 @@
 -- One phase of a store, from its start to its end.
 use Rattle.std.proofs.Common.{◌≡◌, ℕ, List, [], ◌++◌, length, Result, Ok, Err, IfOk, refl, sym, ◌∙◌, ap, ap₂, subst}
 use Rattle.std.specs.declared.alloc.AllocError.{AllocError}
-use Rattle.teb_names.specs.declared.naming.NameBook.{NameBook}
-use Rattle.teb_history.specs.declared.Event.{Event}
+use Rattle.teb_rules.specs.declared.names.naming.NameBook.{NameBook}
+use Rattle.teb_rules.specs.declared.history.Event.{Event}
 use Rattle.teb_rules.specs.Setup.{Setup as Rules, Store}
 use Rattle.teb_rules.specs.Accepted.{IsSound}
 use Rattle.teb_rules.specs.Run.{history_after}
 use Rattle.serial_order.specs.Tables.{IsFinalRows}
 use Rattle.script_text.specs.declared.Line.{Line}
 use Rattle.script_text.specs.declared.Answered.{Answered}
-use Rattle.replay_runner.specs.Logs.{log_of, replayed}
+use Rattle.script_runner.specs.replay.Logs.{log_of, replayed}
 use Rattle.store_setup.specs.declared.Setup.{Setup}
 use Rattle.store_setup.specs.SetupView.{SetupView, setup_view}
 use Rattle.store_setup.specs.Sound.{IsWhole}
@@ -24,7 +24,7 @@ use Rattle.tree_switch.proofs.GoingOn.{further}
 use Rattle.tree_switch.proofs.Starting.{present}
 use Rattle.store_setup.specs.Stores.{store_of_view, names_of}
 use Rattle.input_reader.specs.Tasks.{Task}
-use Rattle.input_runner.specs.Runs.{IsReplay, IsReport, IsRunOver}
+use Rattle.script_runner.specs.Runs.{IsReplay, IsReport, IsRunOver}
 use Rattle.phase_runner.specs.Runs.{IsPhase, Table, starting_with}
 use Rattle.phase_runner.specs.Steps.{HasRun}
 use Rattle.phase_runner.proofs.Drained.{replay_drained}

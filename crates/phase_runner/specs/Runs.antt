@@ -1,8 +1,8 @@
 -- How phases run one after another, and what is shown of them.
 use Rattle.std.specs.Prelude.{◌≡◌, ℕ, ℤ, List, [], ◌∷◌, ◌++◌, None, MatchResult}
-use Rattle.teb_names.specs.declared.Cell.{Cell}
-use Rattle.teb_names.specs.declared.naming.NameBook.{NameBook}
-use Rattle.teb_history.specs.declared.Event.{Event}
+use Rattle.teb_rules.specs.declared.names.Cell.{Cell}
+use Rattle.teb_rules.specs.declared.names.naming.NameBook.{NameBook}
+use Rattle.teb_rules.specs.declared.history.Event.{Event}
 use Rattle.teb_rules.specs.Setup.{Store}
 use Rattle.engine_core.specs.EngineModel.{EngineModel}
 use Rattle.serial_order.specs.Tables.{IsFinalRows}
@@ -14,7 +14,7 @@ use Rattle.store_setup.specs.SetupView.{SetupView}
 use Rattle.command_output.specs.Shown.{Shown}
 use Rattle.store_setup.specs.Stores.{store_of_view, names_of}
 use Rattle.input_reader.specs.Tasks.{Task}
-use Rattle.input_runner.specs.Runs.{IsReplay, IsReport}
+use Rattle.script_runner.specs.Runs.{IsReplay, IsReport}
 use Rattle.phase_runner.specs.Parts.{AreParts}
 use Rattle.phase_runner.specs.Inputs.{phases_of}
 use Rattle.phase_runner.specs.Refusals.{phase_refusal}

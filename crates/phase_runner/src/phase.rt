@@ -1,7 +1,7 @@
 //! One phase of a store.
 
 ghost use Rattle.std.specs.Prelude.{◌≡◌, ◌++◌, ◌∷◌, [], length, IfOk, OnOk};
-ghost use Rattle.teb_names.specs.declared.Cell.{Cell};
+ghost use Rattle.teb_rules.specs.declared.names.Cell.{Cell};
 ghost use Rattle.serial_order.specs.Tables.{IsFinalRows};
 ghost use Rattle.store_setup.specs.SetupView.{setup_view};
 ghost use Rattle.store_setup.specs.Sound.{IsWhole};
@@ -14,8 +14,8 @@ ghost use Rattle.phase_runner.specs.Steps.{HasRun};
 use answer_log::ReplyText;
 use engine_core::Engine;
 use input_reader::Input;
-use input_runner::report_of;
-use replay_runner::replay;
+use script_runner::replay::replay;
+use script_runner::report_of;
 use script_text::Line;
 use std::alloc::{AllocError, Global};
 use store_setup::Setup;

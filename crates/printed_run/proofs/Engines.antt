@@ -1,6 +1,6 @@
 -- The history of an engine is a history over its setup.
 use Rattle.std.proofs.Common.{◌≡◌, sym, ap, ◌∙◌, length}
-use Rattle.teb_names.specs.declared.naming.NameBook.{NameBook}
+use Rattle.teb_rules.specs.declared.names.naming.NameBook.{NameBook}
 use Rattle.teb_rules.specs.Setup.{Store}
 use Rattle.store_setup.specs.declared.Setup.{Setup}
 use Rattle.store_setup.specs.SetupView.{setup_view}

@@ -1,15 +1,15 @@
 -- Histories over the store of a whole setup: everything that they and their final rows name has a name.
 use Rattle.std.proofs.Common.{◌≡◌, ℕ, List, [], length, reverse, sym, subst, subst₂, ℤ}
 use Rattle.std.specs.Prelude.{All}
-use Rattle.teb_names.specs.declared.Cell.{Cell}
-use Rattle.teb_names.specs.declared.Session.{Session}
-use Rattle.teb_names.specs.declared.Request.{Request}
-use Rattle.teb_names.specs.declared.naming.NameBook.{NameBook}
-use Rattle.teb_history.specs.declared.Event.{Event}
+use Rattle.teb_rules.specs.declared.names.Cell.{Cell}
+use Rattle.teb_rules.specs.declared.names.Session.{Session}
+use Rattle.teb_rules.specs.declared.names.Request.{Request}
+use Rattle.teb_rules.specs.declared.names.naming.NameBook.{NameBook}
+use Rattle.teb_rules.specs.declared.history.Event.{Event}
 use Rattle.teb_rules.specs.Setup.{Store, Setup}
 use Rattle.teb_rules.specs.Accepted.{IsSound}
 use Rattle.teb_rules.specs.Run.{history_after}
-use Rattle.teb_laws.proofs.Within.{stays_within}
+use Rattle.teb_rules.proofs.lemmas.laws.Within.{stays_within}
 use Rattle.serial_order.specs.Tables.{IsFinalRows}
 use Rattle.serial_order.proofs.Within.{row_within, rows_within}
 use Rattle.script_text.specs.Named.{CellNamed, EventNamed}

@@ -1,6 +1,6 @@
 //! The printed run of an engine: its starting rows, its events, its serial order and its final rows, as `audit` takes them.
 //!
-//! `hall_runner` prints a run by several threads with it, `tebaldi_c` returns it to C, and `input_runner` ends its reports with
+//! `hall_runner` prints a run by several threads with it, `tebaldi_c` returns it to C, and `script_runner` ends its reports with
 //! [`put_ending`].
 //!
 //! ```text

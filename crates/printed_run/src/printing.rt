@@ -12,8 +12,8 @@ use crate::ending::put_ending;
 use engine_core::Engine;
 use script_text::{put_event, put_starts};
 use std::alloc::{AllocError, Global};
-use teb_history::Event;
-use teb_names::NameBook;
+use teb_rules::history::Event;
+use teb_rules::names::NameBook;
 use version_chain::Chains;
 
 /// Returns the printed run of an engine: the start lines, the event lines of its history, the serial order and the final rows. `audit`

@@ -1,8 +1,8 @@
 -- What is found on a disk.
 use Rattle.std.proofs.Common.{◌≡◌, ℕ, ◌*◌, ◌^◌, ◌≤◌, ◌<◌, List, length, take, Err, ℤ, sym, ◌∙◌, ap, arith}
 use Rattle.std.proofs.lemmas.List.{length-take, length-take-le}
-use Rattle.teb_names.specs.declared.Cell.{Cell}
-use Rattle.teb_names.specs.Rows.{row_of}
+use Rattle.teb_rules.specs.declared.names.Cell.{Cell}
+use Rattle.teb_rules.specs.names.Rows.{row_of}
 use Rattle.std.specs.Result.{IsErrOf}
 use Rattle.record_journal.specs.declared.error.RecoverError.{RecoverError}
 use Rattle.record_journal.specs.declared.error.RecoverError.TheVariants as errors

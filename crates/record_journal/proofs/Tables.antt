@@ -11,10 +11,10 @@ use Rattle.std.proofs.lemmas.List.{take_more, map_push}
 use Rattle.std.proofs.lemmas.Bool.{and_from}
 use Rattle.std.proofs.lemmas.Map.Keys.{sorted_tail, sorted_head}
 use Rattle.std.proofs.lemmas.Grind.{common_steps}
-use Rattle.teb_names.specs.declared.Cell.{Cell}
-use Rattle.teb_names.specs.contracts.CellOrd.TheImpl.{ghosts}
-use Rattle.teb_names.specs.Cells.{same_cell, is_before}
-use Rattle.teb_names.specs.Rows.{row_of, is_ascending, IsAscending}
+use Rattle.teb_rules.specs.declared.names.Cell.{Cell}
+use Rattle.teb_rules.specs.contracts.names.CellOrd.TheImpl.{ghosts}
+use Rattle.teb_rules.specs.names.Cells.{same_cell, is_before}
+use Rattle.teb_rules.specs.names.Rows.{row_of, is_ascending, IsAscending}
 use Rattle.teb_rules.specs.Replay.{Values, put_in}
 use Rattle.record_journal.specs.declared.change.Change.{Change}
 use Rattle.record_journal.specs.Format.{Record}

@@ -7,7 +7,7 @@ ghost use Rattle.record_journal.specs.Views.{record_lists};
 
 use crate::{CHANGE_BYTES, COUNT_BYTES, Change, RecoverError};
 use std::alloc::{AllocError, Global};
-use teb_names::{Cell, Table};
+use teb_rules::names::{Cell, Table};
 
 // Reads fourteen bytes as a change.
 #[tactic(auto, unfolding(crate::specs::Format::value_of_tag))]

@@ -1,8 +1,8 @@
 //! The rows on a disk, also after a crash.
 
 ghost use Rattle.std.specs.Prelude.{◌≡◌, ◌+◌, ◌≤◌, List, ℕ, length, take, IfOk, IfErr, OnOk, IsErrOf};
-ghost use Rattle.teb_names.specs.declared.Cell.{Cell as TheCell};
-ghost use Rattle.teb_names.specs.Rows.{row_of, IsAscending};
+ghost use Rattle.teb_rules.specs.declared.names.Cell.{Cell as TheCell};
+ghost use Rattle.teb_rules.specs.names.Rows.{row_of, IsAscending};
 ghost use Rattle.crash_disk.specs.Calls.{AreSure};
 ghost use Rattle.crash_disk.specs.Disk.{IsQuiet, Only};
 ghost use Rattle.crash_disk.specs.Sizes.{default_capacity};
@@ -16,7 +16,7 @@ use crate::rows::rows_after;
 use crate::whole::read_whole;
 use crash_disk::Disk;
 use std::alloc::Global;
-use teb_names::Cell;
+use teb_rules::names::Cell;
 
 /// The result of the records of a journal.
 #[derive(Debug, Drop)]

@@ -2,8 +2,8 @@
 
 ghost use Rattle.std.specs.Prelude.{◌≡◌, OnOk, IfOk};
 ghost use Rattle.std.specs.BTreeMap.{get};
-ghost use Rattle.teb_names.specs.declared.Cell.{Cell as TheCell};
-ghost use Rattle.teb_names.specs.Rows.{row_of, IsAscending};
+ghost use Rattle.teb_rules.specs.declared.names.Cell.{Cell as TheCell};
+ghost use Rattle.teb_rules.specs.names.Rows.{row_of, IsAscending};
 ghost use Rattle.teb_rules.specs.Replay.{put_in};
 ghost use Rattle.record_journal.specs.Journal.{after_changes, after_records};
 ghost use Rattle.record_journal.specs.Views.{record_lists};
@@ -11,7 +11,7 @@ ghost use Rattle.record_journal.specs.Views.{record_lists};
 use crate::Change;
 use std::alloc::{AllocError, Global};
 use std::collections::BTreeMap;
-use teb_names::Cell;
+use teb_rules::names::Cell;
 
 /// Returns the rows after some records, in ascending order of their cells.
 ///

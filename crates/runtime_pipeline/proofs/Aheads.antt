@@ -1,18 +1,18 @@
 -- Which transactions are ahead of which after one more event.
 use Rattle.std.proofs.Common.{◌≡◌, ℕ, suc, ◌<◌, ◌≤◌, Bool, true, false, cond, not, ◌||◌, ◌&&◌, eqb, List, [], ◌∷◌, map, filter, length, refl, sym, ◌∙◌, ap, subst, arith, inl, inr, lt-ltb, le-ltb}
 use Rattle.std.proofs.lemmas.Bool.{cases_Bool, both_ways, and_parts, eqb-true, eq-eqb, ne_eqb}
-use Rattle.teb_names.specs.declared.Txn.{Txn}
-use Rattle.teb_names.specs.declared.Cell.{Cell}
-use Rattle.teb_names.proofs.Bools.{or_true, or_false}
-use Rattle.teb_history.specs.declared.Event.{Event}
-use Rattle.teb_history.specs.Phases.{unfinished, txns}
-use Rattle.teb_history.specs.Ascending.{AllAbove, IsAscendingBy, put_by}
-use Rattle.teb_history.specs.Live.{number_of}
-use Rattle.teb_history.proofs.AscendingLists.{above-filter, ascending-filter}
+use Rattle.teb_rules.specs.declared.names.Txn.{Txn}
+use Rattle.teb_rules.specs.declared.names.Cell.{Cell}
+use Rattle.teb_rules.proofs.lemmas.names.Bools.{or_true, or_false}
+use Rattle.teb_rules.specs.declared.history.Event.{Event}
+use Rattle.teb_rules.specs.history.Phases.{unfinished, txns}
+use Rattle.teb_rules.specs.history.Ascending.{AllAbove, IsAscendingBy, put_by}
+use Rattle.teb_rules.specs.history.Live.{number_of}
+use Rattle.teb_rules.proofs.lemmas.history.AscendingLists.{above-filter, ascending-filter}
 use Rattle.teb_rules.specs.Setup.{Setup, among}
 use Rattle.teb_rules.specs.Controls.{blocks}
 use Rattle.teb_rules.specs.Serializes.{In}
-use Rattle.teb_laws.proofs.AscendingNumbers.{number, txns_ascending, above_in}
+use Rattle.teb_rules.proofs.lemmas.laws.AscendingNumbers.{number, txns_ascending, above_in}
 use Rattle.hold_book.specs.declared.Hold.{Hold}
 use Rattle.hold_book.specs.Holders.{holds, hold_of, holds_in}
 use Rattle.access_conflicts.specs.Blockers.{in_the_way}

@@ -2,14 +2,14 @@
 use Rattle.std.proofs.Common.{◌≡◌, ℕ, suc, Bool, true, false, cond, ◌||◌, ◌&&◌, eqb, List, [], ◌∷◌, refl, sym, ◌∙◌, ap, arith, inl, inr}
 use Rattle.std.specs.Prelude.{All}
 use Rattle.std.proofs.lemmas.Bool.{cases_Bool}
-use Rattle.teb_names.specs.declared.Txn.{Txn}
-use Rattle.teb_names.proofs.Bools.{and_false}
-use Rattle.teb_history.specs.Ascending.{put_by}
-use Rattle.teb_history.specs.Live.{number_of}
-use Rattle.teb_history.specs.declared.Event.{Event}
+use Rattle.teb_rules.specs.declared.names.Txn.{Txn}
+use Rattle.teb_rules.proofs.lemmas.names.Bools.{and_false}
+use Rattle.teb_rules.specs.history.Ascending.{put_by}
+use Rattle.teb_rules.specs.history.Live.{number_of}
+use Rattle.teb_rules.specs.declared.history.Event.{Event}
 use Rattle.teb_rules.specs.Setup.{Setup}
 use Rattle.teb_rules.specs.Tree.{meets, side}
-use Rattle.teb_laws.proofs.Nodes.{meets_parts}
+use Rattle.teb_rules.proofs.lemmas.laws.Nodes.{meets_parts}
 use Rattle.hold_book.specs.declared.Hold.{Hold}
 use Rattle.access_conflicts.specs.Blockers.{in_the_way}
 use Rattle.runtime_pipeline.specs.Predecessors.{joined}

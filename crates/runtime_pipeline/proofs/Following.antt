@@ -1,30 +1,30 @@
 -- The lists of predecessors after one more event.
 use Rattle.std.proofs.Common.{◌≡◌, ◌⊎◌, ℕ, ℤ, suc, ◌+◌, ◌<◌, ◌≤◌, Bool, true, false, cond, not, ◌||◌, ◌&&◌, eqb, List, [], ◌∷◌, ◌++◌, map, filter, length, length-append, drop, Option, refl, sym, ◌∙◌, ap, subst, arith, inl, inr}
 use Rattle.std.proofs.lemmas.Bool.{cases_Bool, both_ways, eqb-true, eq-eqb, ne_eqb}
-use Rattle.teb_names.specs.declared.Txn.{Txn}
-use Rattle.teb_names.specs.declared.Session.{Session}
-use Rattle.teb_names.specs.declared.Kind.{Kind}
-use Rattle.teb_names.specs.declared.Cause.{Cause}
-use Rattle.teb_names.specs.declared.Cell.{Cell}
-use Rattle.teb_names.specs.Cells.{same_cell}
-use Rattle.teb_names.proofs.Bools.{and_true, and_false, or_true, or_swap}
-use Rattle.teb_history.specs.declared.Event.{Event}
-use Rattle.teb_history.specs.declared.Event.TheVariants.{Began, Got, Put, Ready, Done, Gone, Told}
-use Rattle.teb_history.specs.Phases.{is_began, is_done, is_gone, done_at, gone_at, begun, committed, aborted, unfinished, begun_count, numbers, txns, spot_of}
-use Rattle.teb_history.specs.Accesses.{wrote, got}
-use Rattle.teb_history.specs.Ascending.{IsAscendingBy}
-use Rattle.teb_history.specs.Live.{number_of}
-use Rattle.teb_history.proofs.Any.{came_any}
-use Rattle.teb_history.proofs.Newest.{begun-cons, committed-cons, aborted-cons, wrote-cons, got-cons, unfinished-cons}
+use Rattle.teb_rules.specs.declared.names.Txn.{Txn}
+use Rattle.teb_rules.specs.declared.names.Session.{Session}
+use Rattle.teb_rules.specs.declared.names.Kind.{Kind}
+use Rattle.teb_rules.specs.declared.names.Cause.{Cause}
+use Rattle.teb_rules.specs.declared.names.Cell.{Cell}
+use Rattle.teb_rules.specs.names.Cells.{same_cell}
+use Rattle.teb_rules.proofs.lemmas.names.Bools.{and_true, and_false, or_true, or_swap}
+use Rattle.teb_rules.specs.declared.history.Event.{Event}
+use Rattle.teb_rules.specs.declared.history.Event.TheVariants.{Began, Got, Put, Ready, Done, Gone, Told}
+use Rattle.teb_rules.specs.history.Phases.{is_began, is_done, is_gone, done_at, gone_at, begun, committed, aborted, unfinished, begun_count, numbers, txns, spot_of}
+use Rattle.teb_rules.specs.history.Accesses.{wrote, got}
+use Rattle.teb_rules.specs.history.Ascending.{IsAscendingBy}
+use Rattle.teb_rules.specs.history.Live.{number_of}
+use Rattle.teb_rules.proofs.lemmas.history.Any.{came_any}
+use Rattle.teb_rules.proofs.lemmas.history.Newest.{begun-cons, committed-cons, aborted-cons, wrote-cons, got-cons, unfinished-cons}
 use Rattle.teb_rules.specs.Setup.{Setup}
 use Rattle.teb_rules.specs.Tree.{on, side, on_path, side_at, meets}
 use Rattle.teb_rules.specs.Controls.{earlier, blocks}
 use Rattle.teb_rules.specs.Serializes.{In}
-use Rattle.teb_laws.proofs.Locks.{In-numbers}
-use Rattle.teb_laws.proofs.Serial.{numbers-In}
-use Rattle.teb_laws.proofs.Holding.{unfinished_same}
-use Rattle.teb_laws.proofs.Nodes.{meets_parts}
-use Rattle.teb_laws.proofs.Cascades.{no_members}
+use Rattle.teb_rules.proofs.lemmas.laws.Locks.{In-numbers}
+use Rattle.teb_rules.proofs.lemmas.laws.Serial.{numbers-In}
+use Rattle.teb_rules.proofs.lemmas.laws.Holding.{unfinished_same}
+use Rattle.teb_rules.proofs.lemmas.laws.Nodes.{meets_parts}
+use Rattle.teb_rules.proofs.lemmas.laws.Cascades.{no_members}
 use Rattle.phase_api.specs.FactsView.{IsOrderly}
 use Rattle.phase_api.specs.Calls.{MayNote}
 use Rattle.hold_book.specs.Holders.{holds_in}

@@ -3,17 +3,17 @@ use Rattle.std.proofs.Common.{◌≡◌, ℕ, zero, suc, ◌<◌, ◌≤◌, Boo
 use Rattle.std.specs.List.{list_any, All}
 use Rattle.std.proofs.lemmas.Bool.{cases_lt, ne_eqb}
 use Rattle.std.proofs.Math.ListN.{get_or-eq_default}
-use Rattle.teb_names.specs.declared.Kind.{Kind}
-use Rattle.teb_names.proofs.Bools.{and_false}
+use Rattle.teb_rules.specs.declared.names.Kind.{Kind}
+use Rattle.teb_rules.proofs.lemmas.names.Bools.{and_false}
 use Rattle.teb_rules.specs.Setup.{Setup, among, above, above_steps, above_profiles, ranked_tables, profile}
 use Rattle.teb_rules.specs.Tree.{below}
 use Rattle.teb_rules.specs.Serializes.{In}
 use Rattle.teb_rules.specs.Steps.{leads, arrow, reaches, greatest, ahead, longest, table_rank, stands_under, profiles_under, rank_of_table}
-use Rattle.teb_laws.proofs.Serial.{filter-In}
-use Rattle.teb_laws.proofs.Cascades.{no_members}
-use Rattle.teb_laws.proofs.TableRanks.{below-In}
+use Rattle.teb_rules.proofs.lemmas.laws.Serial.{filter-In}
+use Rattle.teb_rules.proofs.lemmas.laws.Cascades.{no_members}
+use Rattle.teb_rules.proofs.lemmas.laws.TableRanks.{below-In}
 use Rattle.static_steps.specs.Profiles.{profiles_of}
-use Rattle.cc_tree.specs.Grown.{kind_numbers}
+use Rattle.store_setup.specs.tree.Grown.{kind_numbers}
 use Rattle.runtime_pipeline.specs.Standing.{RanksOf}
 
 -- a table above all named ones is in no list; none reaches it, and it has rank 0

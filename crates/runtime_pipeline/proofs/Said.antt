@@ -1,15 +1,15 @@
 -- The answers of a pipeline node, found among the transactions that are ahead and the holders of a cell.
 use Rattle.std.proofs.Common.{◌≡◌, ℕ, zero, suc, ◌<◌, ◌≤◌, Bool, true, false, cond, not, ◌||◌, ◌&&◌, ltb, List, [], ◌∷◌, length, map, filter, find, get_or, Option, Some, None, refl, sym, ◌∙◌, ap, arith, IsTrue}
 use Rattle.std.proofs.lemmas.Bool.{and_parts}
-use Rattle.teb_names.specs.declared.Txn.{Txn}
-use Rattle.teb_names.specs.declared.Cell.{Cell}
-use Rattle.teb_names.specs.declared.Spot.{Spot}
-use Rattle.teb_names.specs.declared.ControlKind.TheVariants.{Pipeline}
-use Rattle.teb_names.proofs.Bools.{and_true}
-use Rattle.teb_history.specs.declared.Event.{Event}
-use Rattle.teb_history.specs.Phases.{txns, begun, unfinished, committed, kind_of}
-use Rattle.teb_history.specs.Accesses.{put_at}
-use Rattle.teb_history.proofs.LeastNumbers.{nobody}
+use Rattle.teb_rules.specs.declared.names.Txn.{Txn}
+use Rattle.teb_rules.specs.declared.names.Cell.{Cell}
+use Rattle.teb_rules.specs.declared.names.Spot.{Spot}
+use Rattle.teb_rules.specs.declared.names.ControlKind.TheVariants.{Pipeline}
+use Rattle.teb_rules.proofs.lemmas.names.Bools.{and_true}
+use Rattle.teb_rules.specs.declared.history.Event.{Event}
+use Rattle.teb_rules.specs.history.Phases.{txns, begun, unfinished, committed, kind_of}
+use Rattle.teb_rules.specs.history.Accesses.{put_at}
+use Rattle.teb_rules.proofs.lemmas.history.LeastNumbers.{nobody}
 use Rattle.teb_rules.specs.Setup.{Setup}
 use Rattle.teb_rules.specs.Tree.{row, meets}
 use Rattle.teb_rules.specs.Steps.{passed, rank_of_table, rank_of_step, cursor}

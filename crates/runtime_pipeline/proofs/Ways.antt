@@ -1,9 +1,9 @@
 -- The types under a node, found row by row.
 use Rattle.std.proofs.Common.{◌≡◌, ℕ, zero, suc, ◌+◌, Bool, true, false, cond, ◌||◌, eqb, List, [], ◌∷◌, ◌++◌, filter, Option, Some, None, refl, sym, ◌∙◌, ap, arith, append-nil}
 use Rattle.std.specs.List.{list_any}
-use Rattle.teb_names.specs.declared.Kind.{Kind}
-use Rattle.teb_names.proofs.Bools.{or_true, or_false}
-use Rattle.cc_tree.specs.Grown.{kind_numbers}
+use Rattle.teb_rules.specs.declared.names.Kind.{Kind}
+use Rattle.teb_rules.proofs.lemmas.names.Bools.{or_true, or_false}
+use Rattle.store_setup.specs.tree.Grown.{kind_numbers}
 use Rattle.teb_rules.specs.Setup.{NodeRow, among}
 use Rattle.teb_rules.specs.Tree.{below, climb, row}
 

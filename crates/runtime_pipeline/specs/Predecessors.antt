@@ -1,11 +1,11 @@
 -- Which transactions are ahead of which at a node, and what is kept of it.
 use Rattle.std.specs.Prelude.{◌≡◌, ℕ, ◌+◌, ◌*◌, ◌≤◌, Bool, cond, not, ◌&&◌, eqb, List, [], ◌∷◌, map, filter, length, Vec, vec_len, vec_capacity, IsFalse}
 use Rattle.std.specs.declared.alloc.Global.{Global}
-use Rattle.teb_names.specs.declared.Txn.{Txn}
-use Rattle.teb_history.specs.declared.Event.{Event}
-use Rattle.teb_history.specs.Phases.{txns, begun, committed, aborted, unfinished}
-use Rattle.teb_history.specs.Ascending.{put_by}
-use Rattle.teb_history.specs.Live.{number_of}
+use Rattle.teb_rules.specs.declared.names.Txn.{Txn}
+use Rattle.teb_rules.specs.declared.history.Event.{Event}
+use Rattle.teb_rules.specs.history.Phases.{txns, begun, committed, aborted, unfinished}
+use Rattle.teb_rules.specs.history.Ascending.{put_by}
+use Rattle.teb_rules.specs.history.Live.{number_of}
 use Rattle.teb_rules.specs.Setup.{Setup}
 use Rattle.teb_rules.specs.Tree.{meets}
 use Rattle.teb_rules.specs.Controls.{earlier}

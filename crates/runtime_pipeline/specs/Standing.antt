@@ -1,7 +1,7 @@
 -- Which history a pipeline control stands for.
 use Rattle.std.specs.Prelude.{◌≡◌, ◌≤◌, ℕ, Bool, false, not, ◌&&◌, min, List, length, slice_index, Option, Some, None}
-use Rattle.teb_history.specs.declared.Event.{Event}
-use Rattle.teb_names.specs.declared.ControlKind.TheVariants.{Pipeline as IsPipeline}
+use Rattle.teb_rules.specs.declared.history.Event.{Event}
+use Rattle.teb_rules.specs.declared.names.ControlKind.TheVariants.{Pipeline as IsPipeline}
 use Rattle.teb_rules.specs.Setup.{Setup}
 use Rattle.teb_rules.specs.Tree.{row}
 use Rattle.teb_rules.specs.Steps.{rank_of_table, passed}

@@ -5,12 +5,12 @@ ghost use Rattle.teb_rules.specs.Setup.{above_profiles};
 ghost use Rattle.runtime_pipeline.specs.Standing.{RanksOf};
 
 use crate::under::kinds_under;
-use cc_tree::Tree;
 use static_steps::{Ranks, ranked_tables, ranks};
 use std::alloc::{AllocError, Global};
 use std::marker::Model;
-use teb_names::{Node, Table};
-use txn_profile::Profile;
+use store_setup::profile::Profile;
+use store_setup::tree::Tree;
+use teb_rules::names::{Node, Table};
 
 /// The rank of each table at a node. Contracts see the list of ranks, by table; a table past its end has rank 0.
 #[derive(Drop)]

@@ -2,8 +2,8 @@
 //! transaction enters a step, and commits, after those that are earlier.
 
 ghost use Rattle.std.specs.Prelude.{◌≡◌, ◌<◌, ◌≤◌, ◌&&◌, not, [], Option, Some, None, IfOk, IsTrue, find, ltb, slice_index_or, length};
-ghost use Rattle.teb_names.specs.declared.ControlKind.TheVariants.{Pipeline as IsPipeline};
-ghost use Rattle.teb_history.specs.Phases.{txns, unfinished, kind_of};
+ghost use Rattle.teb_rules.specs.declared.names.ControlKind.TheVariants.{Pipeline as IsPipeline};
+ghost use Rattle.teb_rules.specs.history.Phases.{txns, unfinished, kind_of};
 ghost use Rattle.teb_rules.specs.Setup.{above_profiles};
 ghost use Rattle.teb_rules.specs.Tree.{row};
 ghost use Rattle.teb_rules.specs.Steps.{passed, rank_of_table, rank_of_step, cursor};
@@ -21,10 +21,10 @@ use cursor_book::Cursors;
 use hold_book::Hold;
 use phase_api::{Control, Facts};
 use std::alloc::{AllocError, Global};
-use teb_history::Event;
-use teb_names::{Cell, Node, Spot, Table, Txn};
+use store_setup::profile::Profile;
 use teb_rules::Verdict;
-use txn_profile::Profile;
+use teb_rules::history::Event;
+use teb_rules::names::{Cell, Node, Spot, Table, Txn};
 use version_chain::Chains;
 
 /// The pipeline control of a node.

@@ -1,10 +1,10 @@
 //! Which transactions are ahead of which at a node, kept event by event.
 
 ghost use Rattle.std.specs.Prelude.{◌≡◌, ◌<◌, ◌≤◌, ◌+◌, ◌||◌, ℕ, [], IsFalse, cond, drop, eqb, get_or, length, vec_capacity, vec_len, All, IsTrue, OnOk};
-ghost use Rattle.teb_names.specs.declared.Txn.{Txn};
-ghost use Rattle.teb_history.specs.declared.Event.{Event};
-ghost use Rattle.teb_history.specs.Ascending.{IsAscendingBy};
-ghost use Rattle.teb_history.specs.Live.{number_of};
+ghost use Rattle.teb_rules.specs.declared.names.Txn.{Txn};
+ghost use Rattle.teb_rules.specs.declared.history.Event.{Event};
+ghost use Rattle.teb_rules.specs.history.Ascending.{IsAscendingBy};
+ghost use Rattle.teb_rules.specs.history.Live.{number_of};
 ghost use Rattle.teb_rules.specs.Setup.{Setup};
 ghost use Rattle.phase_api.specs.FactsView.{setup_of, events_of, IsOrderly, IsTyped};
 ghost use Rattle.phase_api.specs.Calls.{IsNewest};
@@ -22,8 +22,8 @@ use phase_api::Facts;
 use sorted_multimap::{Multimap, clear_txn};
 use std::alloc::{AllocError, Global};
 use std::marker::Model;
-use teb_history::Event;
-use teb_names::{Node, Txn};
+use teb_rules::history::Event;
+use teb_rules::names::{Node, Txn};
 
 /// For each unfinished transaction, those that are ahead of it at a node. It stands for a history, and notes each later event.
 #[derive(Drop)]

@@ -5,12 +5,12 @@ ghost use Rattle.std.specs.List.{list_any};
 ghost use Rattle.teb_rules.specs.Setup.{among};
 ghost use Rattle.teb_rules.specs.Tree.{below, climb, row, way};
 ghost use Rattle.teb_rules.specs.Steps.{stands_under};
-ghost use Rattle.cc_tree.specs.Grown.{kind_numbers};
-ghost use Rattle.cc_tree.specs.Sound.{IsAccepted};
+ghost use Rattle.store_setup.specs.tree.Grown.{kind_numbers};
+ghost use Rattle.store_setup.specs.tree.Sound.{IsAccepted};
 
-use cc_tree::Tree;
 use std::alloc::{AllocError, Global};
-use teb_names::{Kind, Node};
+use store_setup::tree::Tree;
+use teb_rules::names::{Kind, Node};
 
 /// Returns the types of the leaves under a node, ascending.
 pub fn kinds_under(alloc: Global, node: Node, tree: &Tree) -> Result<Vec<Kind>, AllocError>

@@ -1,7 +1,7 @@
 -- No line of a request has more than five words.
 use Rattle.std.proofs.Common.{◌≡◌, ℕ, List, [], ◌∷◌, Option, None, Some, take, refl}
 use Rattle.std.specs.Option.{ok_or}
-use Rattle.teb_names.specs.declared.naming.NameBook.{NameBook}
+use Rattle.teb_rules.specs.declared.names.naming.NameBook.{NameBook}
 use Rattle.script_text.specs.Words.{words_of}
 use Rattle.script_text.specs.declared.script.grammar.Verb.{Verb}
 use Rattle.script_text.specs.declared.script.grammar.Verb.TheVariants as verb

@@ -6,7 +6,7 @@ use Rattle.std.proofs.lemmas.Bool.{and_parts}
 use Rattle.std.proofs.lemmas.Bool.Decides.{nat_tests}
 use Rattle.std.proofs.lemmas.Str.{IsUtf8-from_ascii}
 use Rattle.std.proofs.lemmas.Str.Ascii.{IsAscii-nil, IsAscii-cons}
-use Rattle.teb_names.specs.Names.{is_name, is_name_byte, is_lower}
+use Rattle.teb_rules.specs.names.Names.{is_name, is_name_byte, is_lower}
 
 -- a name is ASCII
 IsAscii-name : (w : List ℕ) → list_all is_name_byte w ≡ true → IsAscii w

@@ -3,7 +3,7 @@ use Rattle.std.proofs.Common.{◌≡◌, ℕ, zero, suc, ◌<◌, true, inl, inr
 use Rattle.std.specs.Borrow.{Bor}
 use Rattle.std.proofs.lemmas.Bool.{cases_eq}
 use Rattle.std.proofs.lemmas.List.{get_or-map, get_or-set_same, get_or-set_other, length-map, map-set}
-use Rattle.teb_names.specs.Names.{is_name, number_of}
+use Rattle.teb_rules.specs.names.Names.{is_name, number_of}
 use Rattle.script_text.specs.AtHand.{AreNumbered}
 use Rattle.script_text.specs.Grammar.{name_at}
 use Rattle.script_text.specs.Words.{nows}

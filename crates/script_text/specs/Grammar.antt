@@ -3,18 +3,18 @@ use Rattle.std.specs.Prelude.{◌≡◌, ℕ, ◌+◌, ◌-◌, ◌^◌, ℤ, �
 use Rattle.std.specs.declared.alloc.Global.{Global}
 use Rattle.std.specs.Option.{ok_or, option_to_list}
 use Rattle.std.specs.Str.{bytes_eq}
-use Rattle.teb_names.specs.declared.TheConstants.{SESSIONS}
-use Rattle.teb_names.specs.Names.{number_of}
-use Rattle.teb_names.specs.declared.Cell.{Cell}
-use Rattle.teb_names.specs.declared.Session.{Session}
-use Rattle.teb_names.specs.declared.Spot.{Spot}
-use Rattle.teb_names.specs.declared.Request.{Request}
-use Rattle.teb_names.specs.declared.Request.TheVariants as request
-use Rattle.teb_names.specs.declared.naming.NameBook.{NameBook}
+use Rattle.teb_rules.specs.declared.names.TheConstants.{SESSIONS}
+use Rattle.teb_rules.specs.names.Names.{number_of}
+use Rattle.teb_rules.specs.declared.names.Cell.{Cell}
+use Rattle.teb_rules.specs.declared.names.Session.{Session}
+use Rattle.teb_rules.specs.declared.names.Spot.{Spot}
+use Rattle.teb_rules.specs.declared.names.Request.{Request}
+use Rattle.teb_rules.specs.declared.names.Request.TheVariants as request
+use Rattle.teb_rules.specs.declared.names.naming.NameBook.{NameBook}
 use Rattle.script_text.specs.Lines.{lines_of}
 use Rattle.script_text.specs.Words.{words_of}
 use Rattle.script_text.specs.Numbers.{number_upto, number_from_one, integer_of}
-use Rattle.teb_names.specs.Names.{is_name}
+use Rattle.teb_rules.specs.names.Names.{is_name}
 use Rattle.script_text.specs.declared.script.grammar.Verb.{Verb}
 use Rattle.script_text.specs.declared.script.grammar.Verb.TheVariants as verb
 use Rattle.script_text.specs.declared.error.LineWhy.{LineWhy}

@@ -1,7 +1,7 @@
 -- A list of lines for each number of a session.
 use Rattle.std.specs.Prelude.{ℕ, ◌++◌, ◌∷◌, [], Bool, not, ◌==◌, map, List, length, slice_index_or, slice_set, Vec}
 use Rattle.std.specs.declared.alloc.Global.{Global}
-use Rattle.teb_names.specs.declared.Session.{Session}
+use Rattle.teb_rules.specs.declared.names.Session.{Session}
 use Rattle.script_text.specs.declared.Line.{Line}
 
 abbrev pub lists_in : List (Vec Line Global) → List (List Line)

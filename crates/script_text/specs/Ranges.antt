@@ -1,12 +1,12 @@
 -- Numbers that fit their types: transactions and keys of 32 bits, and values of 64 bits with a sign.
 use Rattle.std.specs.Prelude.{◌<◌, ◌^◌, IfSome, Option, ℤ}
 use lib.Signed.{mag}
-use Rattle.teb_names.specs.declared.Txn.{Txn}
-use Rattle.teb_names.specs.declared.Cell.{Cell}
-use Rattle.teb_names.specs.declared.Cause.{Cause}
-use Rattle.teb_names.specs.declared.Cause.TheVariants as cause
-use Rattle.teb_history.specs.declared.Event.{Event}
-use Rattle.teb_history.specs.declared.Event.TheVariants as event
+use Rattle.teb_rules.specs.declared.names.Txn.{Txn}
+use Rattle.teb_rules.specs.declared.names.Cell.{Cell}
+use Rattle.teb_rules.specs.declared.names.Cause.{Cause}
+use Rattle.teb_rules.specs.declared.names.Cause.TheVariants as cause
+use Rattle.teb_rules.specs.declared.history.Event.{Event}
+use Rattle.teb_rules.specs.declared.history.Event.TheVariants as event
 
 abbrev pub TxnFits : Txn → Type 0
 TxnFits t = t.0 < 2 ^ 32

@@ -1,7 +1,7 @@
 -- The script of each session.
 use Rattle.std.specs.Prelude.{ℕ, not, ◌==◌, filter, map, List, length}
 use Rattle.std.specs.List.{range_with_len}
-use Rattle.teb_names.specs.declared.Session.{Session}
+use Rattle.teb_rules.specs.declared.names.Session.{Session}
 use Rattle.script_text.specs.declared.Line.{Line}
 
 abbrev pub session : ℕ → Session

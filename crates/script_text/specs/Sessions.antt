@@ -1,7 +1,7 @@
 -- Lines of the sessions that there are.
 use Rattle.std.specs.Prelude.{◌<◌, ◌≤◌, List, [], ◌∷◌}
 use Rattle.script_text.specs.declared.Line.{Line}
-use Rattle.teb_names.specs.declared.TheConstants.{SESSIONS}
+use Rattle.teb_rules.specs.declared.names.TheConstants.{SESSIONS}
 
 -- each line is of a session, 1 to SESSIONS
 abbrev pub AreOfSessions : List Line → Type 0

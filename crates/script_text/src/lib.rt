@@ -45,7 +45,7 @@ pub use input::{MOST_BYTES, MOST_LINES, split_input};
 pub use line_count::has_more_lines;
 pub use script::{number, parse_script};
 pub use scripts::{Scripts, scripts_of};
-use teb_names::{Reply, Request, Session};
+use teb_rules::names::{Reply, Request, Session};
 pub use text::{put_event, put_recovered, put_reply, put_report, put_short_reply, put_starts};
 
 /// A line that asks something.

@@ -19,7 +19,7 @@ use grammar::parse_line;
 use names::BookAtHand;
 pub use numbers::number;
 use std::alloc::{AllocError, Global};
-use teb_names::NameBook;
+use teb_rules::names::NameBook;
 
 /// A usual length of a short line in bytes. Room is made at once for the number of lines that fit a script at this length.
 const USUAL_LEN: usize = 12;

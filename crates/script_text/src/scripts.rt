@@ -7,7 +7,7 @@ ghost use Rattle.script_text.specs.Lists.{lists_in, has_list, with_line};
 use super::Line;
 use std::alloc::{AllocError, Global};
 use std::marker::Model;
-use teb_names::Session;
+use teb_rules::names::Session;
 
 /// The script of each session that has one, in ascending order of the sessions. Contracts see a list of sessions, each with its
 /// lines.
@@ -19,7 +19,7 @@ pub struct Scripts {
 
 impl Model for Scripts {
     ghost use Rattle.std.specs.Prelude.{◌≡◌, List, vec_len};
-    ghost use Rattle.teb_names.specs.declared.Session.{Session};
+    ghost use Rattle.teb_rules.specs.declared.names.Session.{Session};
     ghost use Rattle.script_text.specs.declared.Line.{Line};
     ghost use Rattle.script_text.specs.Lists.{lists_in, paired};
 

@@ -1,7 +1,7 @@
 -- The state of a session in its script, by indices.
 use Rattle.std.proofs.Common.{◌≡◌, ℕ, ◌+◌, ◌<◌, List, [], ◌∷◌, Option, Some, None, refl, sym, ◌∙◌, ap, length, drop, get_or, is_some, unwrap_or, arith}
 use Rattle.std.proofs.lemmas.List.{drop_more, drop-map}
-use Rattle.teb_names.specs.declared.Request.{Request}
+use Rattle.teb_rules.specs.declared.names.Request.{Request}
 use Rattle.script_text.specs.declared.Line.{Line}
 use Rattle.teb_rules.specs.Scripts.{asks, asks_at, Stays, Enters, Leaves, Returns, Goes, moved}
 use Rattle.script_walk.specs.ScriptStates.{requests_on, lines_from, state_at}

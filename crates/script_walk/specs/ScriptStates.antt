@@ -1,6 +1,6 @@
 -- Where a session stands in its script, by indices of its lines in place of the lines that are left.
 use Rattle.std.specs.Prelude.{ℕ, List, Option, Some, None, drop, map}
-use Rattle.teb_names.specs.declared.Request.{Request}
+use Rattle.teb_rules.specs.declared.names.Request.{Request}
 use Rattle.script_text.specs.declared.Line.{Line}
 use Rattle.teb_rules.specs.Scripts.{ScriptState}
 use Rattle.script_walk.specs.declared.walker.Walker.{Walker}

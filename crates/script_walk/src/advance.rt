@@ -6,7 +6,7 @@ ghost use Rattle.short_reply.specs.ShortReplies.{full_reply};
 ghost use Rattle.script_walk.specs.Advances.{move_at};
 
 use short_reply::ShortReply;
-use teb_names::{Cause, Reply};
+use teb_rules::names::{Cause, Reply};
 
 /// How a session goes on along its script after a reply.
 #[derive(Clone, Copy)]

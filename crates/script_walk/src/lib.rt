@@ -1,6 +1,6 @@
 //! How a session follows its script: what it asks next, and where a reply leads it.
 //!
-//! `fair_driver` and `session_tasks` keep a [`Walker`] for each session.
+//! `script_runner::turns` and `session_tasks` keep a [`Walker`] for each session.
 //!
 //! | The reply | The session ([`Advance`]) |
 //! |---|---|

@@ -8,7 +8,7 @@ ghost use Rattle.script_text.specs.declared.Line.{Line};
 
 use crate::advance::{Advance, advance_after};
 use script_text::Line;
-use teb_names::{Reply, Request};
+use teb_rules::names::{Reply, Request};
 
 /// The place of a session in its script.
 #[derive(Clone, Copy, Debug, PartialEq, Eq)]

@@ -1,6 +1,6 @@
 -- Adding cells one after another.
 use Rattle.std.proofs.Common.{◌≡◌, true, ◌||◌, List}
-use Rattle.teb_names.specs.declared.Cell.{Cell}
+use Rattle.teb_rules.specs.declared.names.Cell.{Cell}
 use Rattle.serial_order.specs.declared.seen_cells.SeenCells.{SeenCells}
 use Rattle.serial_order.specs.Seen.{is_among, has, IsSound}
 

@@ -1,8 +1,8 @@
 -- Tests over the numbers from 1 up to a number.
 use Rattle.std.proofs.Common.{◌≡◌, ℕ, suc, ◌+◌, Bool, true, false, ◌||◌, List, [], ◌∷◌, ◌++◌, refl, ap, subst, ◌∙◌, arith}
 use Rattle.std.specs.List.{list_any}
-use Rattle.teb_names.proofs.Bools.{or_false}
-use Rattle.teb_history.specs.Phases.{numbers}
+use Rattle.teb_rules.proofs.lemmas.names.Bools.{or_false}
+use Rattle.teb_rules.specs.history.Phases.{numbers}
 
 any_append : (p : ℕ → Bool) (us : List ℕ) (u : ℕ) → list_any p (us ++ u ∷ []) ≡ (list_any p us || p u)
 any_append p [] u = or_false (p u)

@@ -11,17 +11,17 @@ use Rattle.std.specs.Ordering.{nat_cmp, is_lt, ordering_then}
 use Rattle.std.specs.declared.cmp.Ordering.{Ordering}
 use Rattle.std.specs.declared.cmp.Ordering.TheVariants.{Less, Equal, Greater}
 use Rattle.std.specs.Cmp.Lexicographic.{slice_cmp, nat_list_cmp_total}
-use Rattle.teb_names.specs.declared.Txn.{Txn}
-use Rattle.teb_history.specs.declared.Event.{Event}
-use Rattle.teb_history.specs.declared.Event.TheVariants.{Began, Got, Put, Ready, Done, Gone, Told}
+use Rattle.teb_rules.specs.declared.names.Txn.{Txn}
+use Rattle.teb_rules.specs.declared.history.Event.{Event}
+use Rattle.teb_rules.specs.declared.history.Event.TheVariants.{Began, Got, Put, Ready, Done, Gone, Told}
 use Rattle.teb_rules.specs.Ranks.{lex, serially, serial_order}
 use Rattle.teb_rules.specs.Serializes.{In, Pairs}
 use Rattle.teb_rules.specs.Setup.{Setup}
-use Rattle.teb_laws.specs.Lawful.{Lawful}
-use Rattle.teb_laws.specs.TreeFacts.{TreeFacts}
-use Rattle.teb_laws.proofs.Lists.{Sorted, Distinct, sorted_unique}
-use Rattle.teb_laws.proofs.Commits.{committed_in, committed-In, In-committed}
-use Rattle.teb_laws.proofs.Serial.{Commits, committed_from, serial_strict, order_each, order_all, order_sorted, Pairs-append}
+use Rattle.teb_rules.specs.laws.Lawful.{Lawful}
+use Rattle.teb_rules.specs.laws.TreeFacts.{TreeFacts}
+use Rattle.teb_rules.proofs.lemmas.laws.Lists.{Sorted, Distinct, sorted_unique}
+use Rattle.teb_rules.proofs.lemmas.laws.Commits.{committed_in, committed-In, In-committed}
+use Rattle.teb_rules.proofs.lemmas.laws.Serial.{Commits, committed_from, serial_strict, order_each, order_all, order_sorted, Pairs-append}
 use Rattle.batch_book.proofs.Numbered.{unfinished_parts}
 use Rattle.serial_order.specs.Commits.{commits_in}
 use Rattle.serial_order.specs.Keys.{entry_numbers, key_of, cut_key, HasKey, HaveKeys}

@@ -1,22 +1,22 @@
 -- Keys compare in the same way if they are cut after the first rank that is a Done, which no two transactions share.
 use Rattle.std.proofs.Common.{◌≡◌, ◌≢◌, ◌⊎◌, ℕ, ◌<◌, Bool, true, false, cond, ◌&&◌, ◌||◌, eqb, ltb, List, [], ◌∷◌, ◌++◌, length, refl, sym, ◌∙◌, ap, subst, subst₂, inl, inr, arith, append_assoc, eqb-true, ne_eqb}
-use Rattle.teb_names.specs.declared.Spot.{Spot}
-use Rattle.teb_names.specs.declared.ControlKind.{ControlKind}
-use Rattle.teb_names.specs.declared.ControlKind.TheVariants.{Locks, Pipeline, Timestamp, Snapshot}
-use Rattle.teb_history.specs.declared.Event.{Event}
-use Rattle.teb_history.specs.declared.Event.TheVariants.{Began, Got, Put, Ready, Done, Gone, Told}
-use Rattle.teb_history.specs.Phases.{spot_of, began_at, done_at, is_done}
+use Rattle.teb_rules.specs.declared.names.Spot.{Spot}
+use Rattle.teb_rules.specs.declared.names.ControlKind.{ControlKind}
+use Rattle.teb_rules.specs.declared.names.ControlKind.TheVariants.{Locks, Pipeline, Timestamp, Snapshot}
+use Rattle.teb_rules.specs.declared.history.Event.{Event}
+use Rattle.teb_rules.specs.declared.history.Event.TheVariants.{Began, Got, Put, Ready, Done, Gone, Told}
+use Rattle.teb_rules.specs.history.Phases.{spot_of, began_at, done_at, is_done}
 use Rattle.teb_rules.specs.Setup.{Setup}
 use Rattle.teb_rules.specs.Serializes.{Pairs}
 use Rattle.teb_rules.specs.Tree.{row, path, side, side_at}
 use Rattle.teb_rules.specs.Ranks.{lex, key, rank, serially}
-use Rattle.teb_laws.specs.Lawful.{Lawful}
-use Rattle.teb_laws.specs.TreeFacts.{TreeFacts}
-use Rattle.teb_laws.proofs.Meeting.{Rooted, path_good, head_or, next_at, rising_front, no_child}
-use Rattle.teb_laws.proofs.Paths.{key_of}
-use Rattle.teb_laws.proofs.Ranks.{commits, done_rank}
-use Rattle.teb_laws.proofs.Serial.{Commits}
-use Rattle.teb_laws.proofs.Timeline.{apart, kind-lt}
+use Rattle.teb_rules.specs.laws.Lawful.{Lawful}
+use Rattle.teb_rules.specs.laws.TreeFacts.{TreeFacts}
+use Rattle.teb_rules.proofs.lemmas.laws.Meeting.{Rooted, path_good, head_or, next_at, rising_front, no_child}
+use Rattle.teb_rules.proofs.lemmas.laws.Paths.{key_of}
+use Rattle.teb_rules.proofs.lemmas.laws.Ranks.{commits, done_rank}
+use Rattle.teb_rules.proofs.lemmas.laws.Serial.{Commits}
+use Rattle.teb_rules.proofs.lemmas.laws.Timeline.{apart, kind-lt}
 use Rattle.serial_order.specs.Keys.{ranks_by_done, cut_of, cut_key}
 
 -- two paths with the sides g and k at their nodes agree on the next node as long as their sides are the same

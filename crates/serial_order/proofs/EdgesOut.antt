@@ -3,20 +3,20 @@ use Rattle.std.proofs.Common.{◌≡◌, ℕ, ◌+◌, ◌<◌, Bool, true, fals
 use Rattle.std.specs.List.{list_any}
 use Rattle.std.proofs.lemmas.Bool.{cases_eq, and_parts, or_right}
 use Rattle.std.proofs.lemmas.List.{length-replicate, get_or-replicate, length-set, get_or-set_same, get_or-set_other}
-use Rattle.teb_names.proofs.Bools.{and_false, or_false}
-use Rattle.teb_names.specs.declared.ControlKind.TheVariants.{Snapshot}
-use Rattle.teb_history.specs.declared.Event.{Event}
-use Rattle.teb_history.specs.Phases.{txns, numbers, begun_count, begun, began_at, committed}
-use Rattle.teb_laws.specs.Lawful.{Lawful}
-use Rattle.teb_laws.specs.TreeFacts.{TreeFacts}
+use Rattle.teb_rules.proofs.lemmas.names.Bools.{and_false, or_false}
+use Rattle.teb_rules.specs.declared.names.ControlKind.TheVariants.{Snapshot}
+use Rattle.teb_rules.specs.declared.history.Event.{Event}
+use Rattle.teb_rules.specs.history.Phases.{txns, numbers, begun_count, begun, began_at, committed}
+use Rattle.teb_rules.specs.laws.Lawful.{Lawful}
+use Rattle.teb_rules.specs.laws.TreeFacts.{TreeFacts}
 use Rattle.teb_rules.specs.Batches.{start, one_batch}
 use Rattle.teb_rules.specs.Ranks.{has_edge_out}
 use Rattle.teb_rules.specs.Setup.{Setup}
 use Rattle.teb_rules.specs.Tree.{row, on, side, is_snapshot}
-use Rattle.teb_laws.proofs.Batches.{start_differs}
-use Rattle.teb_laws.proofs.Intervals.{interval}
-use Rattle.teb_laws.proofs.Ranks.{commits}
-use Rattle.teb_laws.proofs.Serial.{commits_from}
+use Rattle.teb_rules.proofs.lemmas.laws.Batches.{start_differs}
+use Rattle.teb_rules.proofs.lemmas.laws.Intervals.{interval}
+use Rattle.teb_rules.proofs.lemmas.laws.Ranks.{commits}
+use Rattle.teb_rules.proofs.lemmas.laws.Serial.{commits_from}
 use Rattle.candidate_reads.proofs.Sources.{begun_place}
 use Rattle.snapshot_node.specs.Leaving.{has_edge}
 use Rattle.serial_order.specs.Edges.{leads_out, leads_from, AreMarked, IsMarked, MarkEdges}

@@ -3,17 +3,17 @@ use Rattle.std.proofs.Common.{ℕ, ◌≡◌, Bool, true, false, ◌||◌, eqb, 
 use Rattle.std.specs.List.{list_any}
 use Rattle.std.specs.List.Sorted.{IsStrictlySortedBy}
 use Rattle.std.proofs.lemmas.Bool.{both_ways, and_parts, and_right, or_parts, false_from_ne_true}
-use Rattle.teb_names.specs.declared.Cell.{Cell}
-use Rattle.teb_names.specs.Cells.{same_cell, cell_cmp}
-use Rattle.teb_names.specs.Rows.{row_of}
-use Rattle.teb_history.specs.declared.Event.{Event}
-use Rattle.teb_history.specs.declared.Event.TheVariants.{Began, Got, Put, Ready, Done, Gone, Told}
-use Rattle.teb_history.specs.Phases.{txns}
-use Rattle.teb_history.specs.Accesses.{wrote, put_at, is_put}
-use Rattle.teb_history.proofs.Any.{came_any, any_reverse}
+use Rattle.teb_rules.specs.declared.names.Cell.{Cell}
+use Rattle.teb_rules.specs.names.Cells.{same_cell, cell_cmp}
+use Rattle.teb_rules.specs.names.Rows.{row_of}
+use Rattle.teb_rules.specs.declared.history.Event.{Event}
+use Rattle.teb_rules.specs.declared.history.Event.TheVariants.{Began, Got, Put, Ready, Done, Gone, Told}
+use Rattle.teb_rules.specs.history.Phases.{txns}
+use Rattle.teb_rules.specs.history.Accesses.{wrote, put_at, is_put}
+use Rattle.teb_rules.proofs.lemmas.history.Any.{came_any, any_reverse}
 use Rattle.teb_rules.specs.Setup.{Store}
 use Rattle.teb_rules.specs.Serializes.{value_of, final_table}
-use Rattle.teb_laws.proofs.Serial.{filter-In}
+use Rattle.teb_rules.proofs.lemmas.laws.Serial.{filter-In}
 use Rattle.serial_order.specs.Tables.{cells_put, AreCells}
 use Rattle.serial_order.specs.Seen.{is_among}
 use Rattle.serial_order.proofs.LastCommitted.{latest_nobody, is_final}

@@ -6,11 +6,11 @@ use Rattle.std.specs.Ordering.{is_eq, is_lt, ordering_reverse}
 use Rattle.std.specs.declared.cmp.Ordering.{Ordering}
 use Rattle.std.specs.declared.cmp.Ordering.TheVariants.{Less, Equal, Greater}
 use Rattle.std.proofs.lemmas.Bool.{and_parts, and_from}
-use Rattle.teb_names.specs.declared.Cell.{Cell}
-use Rattle.teb_names.specs.Cells.{same_cell, cell_cmp, is_before}
-use Rattle.teb_names.specs.Rows.{row_of, is_ascending, IsAscending}
-use Rattle.teb_names.proofs.CellOrder.{cell_cmp_total, same_cell-cell_cmp, before_less}
-use Rattle.teb_names.proofs.SameCells.{same_cell-true}
+use Rattle.teb_rules.specs.declared.names.Cell.{Cell}
+use Rattle.teb_rules.specs.names.Cells.{same_cell, cell_cmp, is_before}
+use Rattle.teb_rules.specs.names.Rows.{row_of, is_ascending, IsAscending}
+use Rattle.teb_rules.proofs.lemmas.names.CellOrder.{cell_cmp_total, same_cell-cell_cmp, before_less}
+use Rattle.teb_rules.proofs.lemmas.names.SameCells.{same_cell-true}
 use Rattle.serial_order.specs.Seen.{is_among}
 use Rattle.serial_order.specs.Tables.{rows_before, rows_behind, row_before, merged_rows}
 

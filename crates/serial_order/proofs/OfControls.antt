@@ -1,8 +1,8 @@
 -- The control of a node is of the node's kind and keeps its batches.
 use Rattle.std.proofs.Common.{◌≡◌, ℕ, ◌∙◌, List, refl, sym, ap, subst, subst₂}
-use Rattle.teb_names.specs.declared.ControlKind.{ControlKind}
-use Rattle.teb_names.specs.declared.ControlKind.TheVariants.{Locks as IsLocks, Pipeline as IsPipeline, Timestamp as IsTimestamp, Snapshot as IsSnapshot}
-use Rattle.teb_history.specs.declared.Event.{Event}
+use Rattle.teb_rules.specs.declared.names.ControlKind.{ControlKind}
+use Rattle.teb_rules.specs.declared.names.ControlKind.TheVariants.{Locks as IsLocks, Pipeline as IsPipeline, Timestamp as IsTimestamp, Snapshot as IsSnapshot}
+use Rattle.teb_rules.specs.declared.history.Event.{Event}
 use Rattle.teb_rules.specs.Setup.{Setup}
 use Rattle.teb_rules.specs.Tree.{row}
 use Rattle.batch_book.specs.Book.{Book}

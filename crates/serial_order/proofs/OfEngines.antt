@@ -1,18 +1,18 @@
 -- The laws of every run, stated of engines.
 use Rattle.std.proofs.Common.{◌≡◌, ◌≢◌, ℕ, ◌<◌, true, List, [], sym, subst, arith, length}
-use Rattle.teb_names.specs.declared.Txn.{Txn}
-use Rattle.teb_history.specs.Phases.{began_at, committed}
+use Rattle.teb_rules.specs.declared.names.Txn.{Txn}
+use Rattle.teb_rules.specs.history.Phases.{began_at, committed}
 use Rattle.teb_rules.specs.Ranks.{rank, serial_order}
 use Rattle.teb_rules.specs.Serializes.{Serializes, StandsBefore}
 use Rattle.teb_rules.specs.Tree.{meets}
-use Rattle.teb_laws.specs.Laws.{OrdersVersions, OrdersConflicts, ReadsAreStable, RanksAgree}
-use Rattle.teb_laws.specs.Lawful.{Lawful}
-use Rattle.teb_laws.proofs.Laws as laws
-use Rattle.teb_laws.proofs.Meeting.{meets_exists}
-use Rattle.teb_laws.proofs.Ranks.{commits}
-use Rattle.teb_laws.proofs.Reachable.{run_good, empty_good}
-use Rattle.teb_laws.proofs.Serial.{commits_from}
-use Rattle.teb_laws.proofs.Sound.{tree_facts}
+use Rattle.teb_rules.specs.laws.Laws.{OrdersVersions, OrdersConflicts, ReadsAreStable, RanksAgree}
+use Rattle.teb_rules.specs.laws.Lawful.{Lawful}
+use Rattle.teb_rules.proofs.lemmas.laws.Laws as laws
+use Rattle.teb_rules.proofs.lemmas.laws.Meeting.{meets_exists}
+use Rattle.teb_rules.proofs.lemmas.laws.Ranks.{commits}
+use Rattle.teb_rules.proofs.lemmas.laws.Reachable.{run_good, empty_good}
+use Rattle.teb_rules.proofs.lemmas.laws.Serial.{commits_from}
+use Rattle.teb_rules.proofs.lemmas.laws.Sound.{tree_facts}
 use Rattle.engine_core.specs.EngineModel.{EngineModel, IsOfEngine}
 use Rattle.engine_core.proofs.Reached.{law_of}
 use Rattle.serial_order.specs.Commits.{txn_numbers}

@@ -1,18 +1,18 @@
 -- The nodes of a path, by index.
 use Rattle.std.proofs.Common.{◌≡◌, ℕ, zero, suc, ◌<◌, true, false, eqb, List, [], ◌∷◌, length, get_or, Option, Some, refl, sym, ap, subst, ◌∙◌, arith, eq-eqb}
 use Rattle.std.proofs.lemmas.Bool.{or_left, or_right}
-use Rattle.teb_history.specs.declared.Event.{Event}
+use Rattle.teb_rules.specs.declared.history.Event.{Event}
 use Rattle.teb_rules.specs.Setup.{Setup, among}
 use Rattle.teb_rules.specs.Tree.{on}
 use Rattle.teb_rules.specs.Batches.{start, close}
 use Rattle.std.specs.Prelude.{IfSome}
-use Rattle.teb_names.specs.declared.Spot.{Spot}
-use Rattle.teb_names.specs.declared.Node.{Node}
-use Rattle.teb_names.specs.declared.ControlKind.TheVariants.{Snapshot}
-use Rattle.teb_history.specs.Phases.{spot_of}
+use Rattle.teb_rules.specs.declared.names.Spot.{Spot}
+use Rattle.teb_rules.specs.declared.names.Node.{Node}
+use Rattle.teb_rules.specs.declared.names.ControlKind.TheVariants.{Snapshot}
+use Rattle.teb_rules.specs.history.Phases.{spot_of}
 use Rattle.teb_rules.specs.Tree.{row, path, on_path, side, side_at}
 use Rattle.teb_rules.specs.Ranks.{rank, rank_by, has_edge_out}
-use Rattle.cc_tree.specs.Grown.{node_numbers}
+use Rattle.store_setup.specs.tree.Grown.{node_numbers}
 use Rattle.serial_order.specs.Keys.{key_along, cut_key}
 
 pub among-at : (ns : List ℕ) (i d : ℕ) → i < length ns → among (get_or ns i d) ns ≡ true

@@ -12,10 +12,10 @@ use Rattle.std.proofs.lemmas.List.Kept.{IsStrictlySortedBy-dedup}
 use Rattle.std.proofs.Math.Nat.{div-mul-le_self}
 use Rattle.std.proofs.lemmas.Nat.{le-div, div-add-mod', div-mul-add, mod-mul-add}
 use Rattle.std.proofs.lemmas.Bool.{cases_order, cases_lt, both_ways, and_parts, or_right}
-use Rattle.teb_names.specs.declared.Cell.{Cell}
-use Rattle.teb_names.specs.Cells.{same_cell, cell_cmp}
-use Rattle.teb_names.proofs.SameCells.{same_cell-true, same_itself}
-use Rattle.teb_names.proofs.CellOrder.{cell_cmp_total, same_cell-cell_cmp}
+use Rattle.teb_rules.specs.declared.names.Cell.{Cell}
+use Rattle.teb_rules.specs.names.Cells.{same_cell, cell_cmp}
+use Rattle.teb_rules.proofs.lemmas.names.SameCells.{same_cell-true, same_itself}
+use Rattle.teb_rules.proofs.lemmas.names.CellOrder.{cell_cmp_total, same_cell-cell_cmp}
 use Rattle.serial_order.specs.declared.seen_cells.SeenCells.{SeenCells}
 use Rattle.serial_order.specs.Seen.{is_among, place_of, cell_at, marked_cells, is_marked, IsSound, AreSeen}
 

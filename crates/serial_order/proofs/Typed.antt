@@ -1,10 +1,10 @@
 -- Committed transactions are typed.
 use Rattle.std.proofs.Common.{◌≡◌, ℕ, ◌<◌, true, arith, length}
-use Rattle.teb_history.specs.Phases.{began_at, committed}
-use Rattle.teb_laws.specs.Lawful.{Lawful}
-use Rattle.teb_laws.proofs.Ranks.{commits}
-use Rattle.teb_laws.proofs.Serial.{commits_from}
-use Rattle.teb_laws.proofs.Timeline.{kind-lt}
+use Rattle.teb_rules.specs.history.Phases.{began_at, committed}
+use Rattle.teb_rules.specs.laws.Lawful.{Lawful}
+use Rattle.teb_rules.proofs.lemmas.laws.Ranks.{commits}
+use Rattle.teb_rules.proofs.lemmas.laws.Serial.{commits_from}
+use Rattle.teb_rules.proofs.lemmas.laws.Timeline.{kind-lt}
 use Rattle.phase_api.specs.declared.facts.Facts.{Facts}
 use Rattle.phase_api.specs.FactsView.{setup_of, events_of, IsTyped}
 use Rattle.serial_order.proofs.Walks.{begun_from}

@@ -1,15 +1,15 @@
 -- A walk over a lawful history: the event at a position.
 use Rattle.std.proofs.Common.{◌≡◌, ℕ, suc, ◌+◌, ◌<◌, ◌≤◌, true, List, ◌∷◌, length, reverse, Some, slice_get, refl, sym, ap, subst, ◌∙◌, arith, eq-eqb, lt-ltb}
 use Rattle.std.proofs.lemmas.Option.{get_or_from_slice_get}
-use Rattle.teb_names.specs.declared.Txn.{Txn}
-use Rattle.teb_history.specs.declared.Event.{Event}
-use Rattle.teb_history.specs.declared.Event.TheVariants.{Done}
-use Rattle.teb_history.specs.Positions.{upto}
-use Rattle.teb_history.specs.Phases.{begun, began_at, done_at, is_done, unfinished}
-use Rattle.teb_history.proofs.Chains.{upto-suc}
+use Rattle.teb_rules.specs.declared.names.Txn.{Txn}
+use Rattle.teb_rules.specs.declared.history.Event.{Event}
+use Rattle.teb_rules.specs.declared.history.Event.TheVariants.{Done}
+use Rattle.teb_rules.specs.history.Positions.{upto}
+use Rattle.teb_rules.specs.history.Phases.{begun, began_at, done_at, is_done, unfinished}
+use Rattle.teb_rules.proofs.lemmas.history.Chains.{upto-suc}
 use Rattle.teb_rules.specs.Setup.{Setup}
-use Rattle.teb_laws.specs.Lawful.{Lawful, Granted}
-use Rattle.teb_laws.proofs.Timeline.{granted_at, first_event-le, unfinished-upto, kind-lt}
+use Rattle.teb_rules.specs.laws.Lawful.{Lawful, Granted}
+use Rattle.teb_rules.proofs.lemmas.laws.Timeline.{granted_at, first_event-le, unfinished-upto, kind-lt}
 use Rattle.phase_api.specs.declared.facts.Facts.{Facts}
 use Rattle.phase_api.specs.FactsView.{setup_of, events_of, IsTyped}
 

@@ -2,19 +2,19 @@
 use Rattle.std.proofs.Common.{◌≡◌, ℕ, zero, suc, ◌<◌, Bool, true, false, cond, ◌&&◌, List, [], ◌∷◌, get_or, Option, Some, None, unwrap_or, ℤ, eqb, refl, sym, ◌∙◌, subst, arith}
 use Rattle.std.proofs.lemmas.Cmp.{tied_itself}
 use Rattle.std.specs.Prelude.{All}
-use Rattle.teb_names.specs.declared.Cell.{Cell}
-use Rattle.teb_names.specs.Cells.{same_cell}
-use Rattle.teb_names.specs.Rows.{row_of}
-use Rattle.teb_names.proofs.CellOrder.{cell_cmp_total}
-use Rattle.teb_names.proofs.Ascending.{row_of_tied}
-use Rattle.teb_history.specs.declared.Event.{Event}
-use Rattle.teb_history.specs.declared.Event.TheVariants.{Began, Got, Put, Ready, Done, Gone, Told}
-use Rattle.teb_history.specs.Accesses.{last_put}
+use Rattle.teb_rules.specs.declared.names.Cell.{Cell}
+use Rattle.teb_rules.specs.names.Cells.{same_cell}
+use Rattle.teb_rules.specs.names.Rows.{row_of}
+use Rattle.teb_rules.proofs.lemmas.names.CellOrder.{cell_cmp_total}
+use Rattle.teb_rules.proofs.lemmas.names.Ascending.{row_of_tied}
+use Rattle.teb_rules.specs.declared.history.Event.{Event}
+use Rattle.teb_rules.specs.declared.history.Event.TheVariants.{Began, Got, Put, Ready, Done, Gone, Told}
+use Rattle.teb_rules.specs.history.Accesses.{last_put}
 use Rattle.teb_rules.specs.Setup.{Store}
 use Rattle.teb_rules.specs.Versions.{value_left}
 use Rattle.teb_rules.specs.Serializes.{final_table, value_of}
-use Rattle.teb_laws.specs.Within.{CellWithin, AllWithin}
-use Rattle.teb_names.proofs.SameCells.{same_cell-true}
+use Rattle.teb_rules.specs.laws.Within.{CellWithin, AllWithin}
+use Rattle.teb_rules.proofs.lemmas.names.SameCells.{same_cell-true}
 use Rattle.serial_order.specs.Tables.{IsFinalRows}
 
 -- if all rows are of the first tables, so is each cell that has a row

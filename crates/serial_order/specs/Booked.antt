@@ -1,6 +1,6 @@
 -- Definitions about facts with controls.
 use Rattle.std.specs.Prelude.{◌<◌, ℕ, List, length, IsTrue}
-use Rattle.teb_history.specs.declared.Event.{Event}
+use Rattle.teb_rules.specs.declared.history.Event.{Event}
 use Rattle.teb_rules.specs.Setup.{Setup}
 use Rattle.teb_rules.specs.Tree.{has_batches}
 use Rattle.phase_api.specs.FactsView.{setup_of, events_of}

@@ -1,8 +1,8 @@
 -- Transactions as numbers, and those that events commit.
 use Rattle.std.specs.Prelude.{ℕ, map, List, [], ◌∷◌}
-use Rattle.teb_names.specs.declared.Txn.{Txn}
-use Rattle.teb_history.specs.declared.Event.{Event}
-use Rattle.teb_history.specs.declared.Event.TheVariants.{Done}
+use Rattle.teb_rules.specs.declared.names.Txn.{Txn}
+use Rattle.teb_rules.specs.declared.history.Event.{Event}
+use Rattle.teb_rules.specs.declared.history.Event.TheVariants.{Done}
 
 abbrev pub txn_numbers : List Txn → List ℕ
 txn_numbers ts = map (λ t. t.0) ts

@@ -1,6 +1,6 @@
 -- Definitions about the end state.
 use Rattle.std.specs.Prelude.{ℕ, ℤ, Option}
-use Rattle.teb_names.specs.declared.Cell.{Cell}
+use Rattle.teb_rules.specs.declared.names.Cell.{Cell}
 use Rattle.teb_rules.specs.Setup.{Store}
 use Rattle.serial_order.specs.Tables.{store_with, left_in}
 use Rattle.serial_order.specs.declared.end_state.EndState.{EndState}

@@ -2,8 +2,8 @@
 use Rattle.std.specs.Prelude.{ℕ, List, [], ◌∷◌}
 use Rattle.std.proofs.Props.{props}
 use Rattle.std.specs.Coded.{×_prop, Π_prop, →_prop, Unit-prop}
-use Rattle.teb_names.specs.declared.Cell.{Cell}
-use Rattle.teb_history.specs.declared.Event.{Event}
+use Rattle.teb_rules.specs.declared.names.Cell.{Cell}
+use Rattle.teb_rules.specs.declared.history.Event.{Event}
 use Rattle.teb_rules.specs.Serializes.{Pairs}
 use Rattle.version_chain.specs.Lists.{Version}
 use Rattle.phase_api.specs.Versions.{HaveLastValues}

@@ -9,7 +9,7 @@ use crate::booked::Booked;
 use batch_book::Batches;
 use candidate_reads::control_at;
 use engine_core::AnyControl;
-use teb_names::{Node, Txn};
+use teb_rules::names::{Node, Txn};
 
 impl<'a> Booked<'a> {
     // Returns the batches of a node that has them, which its control keeps.

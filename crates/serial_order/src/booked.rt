@@ -1,7 +1,7 @@
 //! The facts of a setup and a history, with the controls of all nodes, which keep the batches.
 
 ghost use Rattle.teb_rules.specs.Accepted.{IsSound};
-ghost use Rattle.teb_laws.specs.Lawful.{Lawful};
+ghost use Rattle.teb_rules.specs.laws.Lawful.{Lawful};
 ghost use Rattle.phase_api.specs.FactsView.{setup_of, events_of};
 ghost use Rattle.serial_order.specs.Props.{kept};
 

@@ -1,7 +1,7 @@
 //! The batches of a snapshot node from which an edge leads.
 
 ghost use Rattle.std.specs.Prelude.{◌≡◌, IfOk};
-ghost use Rattle.teb_history.specs.Phases.{txns};
+ghost use Rattle.teb_rules.specs.history.Phases.{txns};
 ghost use Rattle.snapshot_node.specs.Controls.{SnapshotStandsFor, snapshot_node_number};
 ghost use Rattle.serial_order.specs.Booked.{ControlsStand, history, told};
 ghost use Rattle.serial_order.specs.Edges.{leads_out, AreMarked, MarkEdges};
@@ -11,7 +11,7 @@ use candidate_reads::control_at;
 use engine_core::AnyControl;
 use snapshot_node::Snapshot;
 use std::alloc::{AllocError, Global};
-use teb_names::{Node, Txn};
+use teb_rules::names::{Node, Txn};
 
 // Only the root can be a snapshot node.
 const ROOT: Node = Node(0);

@@ -1,12 +1,12 @@
 //! The state in which a history leaves the cells.
 
-ghost use Rattle.teb_laws.specs.Lawful.{Lawful};
+ghost use Rattle.teb_rules.specs.laws.Lawful.{Lawful};
 ghost use Rattle.phase_api.specs.FactsView.{setup_of, events_of};
 ghost use Rattle.phase_api.specs.Versions.{HoldsVersions};
 ghost use Rattle.serial_order.specs.Props.{kept};
 
 use phase_api::Facts;
-use teb_names::Rows;
+use teb_rules::names::Rows;
 use version_chain::Chains;
 
 /// Facts of a lawful history, the chains that hold its versions, the starting rows, and how many tables there are.

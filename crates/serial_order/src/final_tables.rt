@@ -2,8 +2,8 @@
 
 ghost use Rattle.std.specs.Prelude.{◌≡◌, ◌<◌, ℕ, ◌++◌, reverse, slice_get, Some, IfOk, IfSome, OnOk};
 ghost use Rattle.std.specs.Option.{option_map};
-ghost use Rattle.teb_names.specs.Rows.{IsAscending};
-ghost use Rattle.teb_history.specs.Phases.{begun_count, committed};
+ghost use Rattle.teb_rules.specs.names.Rows.{IsAscending};
+ghost use Rattle.teb_rules.specs.history.Phases.{begun_count, committed};
 ghost use Rattle.version_chain.specs.Lists.{writers_of, last_place};
 ghost use Rattle.phase_api.specs.FactsView.{events_of};
 ghost use Rattle.serial_order.specs.Tables.{cells_put, rows_before, rows_behind, merged_rows, AreCells, IsFinalRows};
@@ -15,8 +15,8 @@ use engine_core::Engine;
 use phase_api::Facts;
 use std::alloc::{AllocError, Global};
 use std::cmp::Ordering;
-use teb_history::Event;
-use teb_names::{Cell, Txn};
+use teb_rules::history::Event;
+use teb_rules::names::{Cell, Txn};
 use version_chain::{Chains, Found};
 
 /// Returns the rows of the final tables, in ascending order of cells: for each cell the value of its last committed version, or of its

@@ -1,7 +1,7 @@
 //! The key of a committed transaction: its ranks and its sides along its path, up to the rank that is its Done.
 
 ghost use Rattle.std.specs.Prelude.{◌≡◌, ◌++◌, OnOk};
-ghost use Rattle.teb_history.specs.Phases.{done_at, spot_of};
+ghost use Rattle.teb_rules.specs.history.Phases.{done_at, spot_of};
 ghost use Rattle.teb_rules.specs.Tree.{side};
 ghost use Rattle.teb_rules.specs.Ranks.{rank};
 ghost use Rattle.phase_api.specs.FactsView.{IsTyped};
@@ -11,7 +11,7 @@ ghost use Rattle.serial_order.specs.Keys.{cut_key, ranks_by_done};
 
 use crate::booked::Booked;
 use std::alloc::AllocError;
-use teb_names::{ControlKind, Node, Spot, Txn};
+use teb_rules::names::{ControlKind, Node, Spot, Txn};
 
 impl<'a> Booked<'a> {
     /// Appends the rank and the side of a transaction at each node from the root to its leaf, at most 16 numbers. A rank that is its

@@ -1,6 +1,6 @@
 //! Laws of every engine at every moment, of its versions and of the order that `order` returns.
 
-ghost use Rattle.teb_laws.specs.Laws.{OrdersVersions, RanksAgree};
+ghost use Rattle.teb_rules.specs.laws.Laws.{OrdersVersions, RanksAgree};
 ghost use Rattle.teb_rules.specs.Serializes.{Serializes};
 ghost use Rattle.serial_order.specs.Laws.{OfEveryEngine, OfEveryOrder, KeepsConflicts};
 

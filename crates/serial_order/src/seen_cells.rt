@@ -4,7 +4,7 @@ ghost use Rattle.std.specs.Prelude.{◌≡◌, ◌<◌, ◌∷◌, [], IfOk, OnO
 ghost use Rattle.serial_order.specs.Seen.{cell_at as spec_cell_at, place_of as spec_place_of, marked_cells, IsSound, AddsAll, AreSeen};
 
 use std::alloc::{AllocError, Global};
-use teb_names::{Cell, Table};
+use teb_rules::names::{Cell, Table};
 
 /// Cells that were seen. The first keys of each table have a mark each; a cell with another key is in a list, as often as it
 /// was seen.

@@ -4,7 +4,7 @@ ghost use Rattle.std.specs.Prelude.{◌≡◌, reverse, IfOk};
 ghost use Rattle.teb_rules.specs.Accepted.{IsSound};
 ghost use Rattle.teb_rules.specs.Ranks.{serial_order};
 ghost use Rattle.teb_rules.specs.Serializes.{Serializes};
-ghost use Rattle.teb_laws.specs.Lawful.{Lawful};
+ghost use Rattle.teb_rules.specs.laws.Lawful.{Lawful};
 ghost use Rattle.phase_api.specs.FactsView.{setup_of, events_of};
 ghost use Rattle.phase_api.specs.Standing.{StandAll};
 ghost use Rattle.engine_core.specs.AnyControls.{any_node_number, any_stands};
@@ -17,8 +17,8 @@ use crate::booked::Booked;
 use engine_core::{AnyControl, Engine};
 use phase_api::Facts;
 use std::alloc::{AllocError, Global};
-use teb_history::{Event, History};
-use teb_names::{ControlKind, Node, Txn};
+use teb_rules::history::{Event, History};
+use teb_rules::names::{ControlKind, Node, Txn};
 use version_chain::Chains;
 
 /// A committed transaction, with the range of its key among the numbers of all keys.

@@ -1,17 +1,17 @@
 -- The transaction that an answer names.
 use Rattle.std.proofs.Common.{◌≡◌, ◌≤◌, List, sym, ◌∙◌, arith}
-use Rattle.teb_names.specs.declared.TheConstants.{MOST_TXNS}
-use Rattle.teb_names.specs.declared.Session.{Session}
-use Rattle.teb_names.specs.declared.Request.{Request}
-use Rattle.teb_names.specs.declared.Reply.{Reply}
-use Rattle.teb_history.specs.declared.Event.{Event}
-use Rattle.teb_history.specs.Phases.{begun_count}
+use Rattle.teb_rules.specs.declared.names.TheConstants.{MOST_TXNS}
+use Rattle.teb_rules.specs.declared.names.Session.{Session}
+use Rattle.teb_rules.specs.declared.names.Request.{Request}
+use Rattle.teb_rules.specs.declared.names.Reply.{Reply}
+use Rattle.teb_rules.specs.declared.history.Event.{Event}
+use Rattle.teb_rules.specs.history.Phases.{begun_count}
 use Rattle.teb_rules.specs.Setup.{Store}
 use Rattle.teb_rules.specs.Answer.{answer}
-use Rattle.teb_laws.specs.Lawful.{Lawful}
-use Rattle.teb_laws.proofs.Timeline.{begun_counted}
-use Rattle.teb_laws.proofs.Cascades.{unfinished_times}
-use Rattle.teb_laws.proofs.Waits.{again_fair}
+use Rattle.teb_rules.specs.laws.Lawful.{Lawful}
+use Rattle.teb_rules.proofs.lemmas.laws.Timeline.{begun_counted}
+use Rattle.teb_rules.proofs.lemmas.laws.Cascades.{unfinished_times}
+use Rattle.teb_rules.proofs.lemmas.laws.Waits.{again_fair}
 use Rattle.session_server.specs.Waits.{WaitsAmong}
 
 -- an Again names a transaction that has begun

@@ -2,7 +2,7 @@
 use Rattle.std.proofs.Common.{◌≡◌, ℕ, List, [], ◌∷◌, ◌++◌, Option, Some, map, sym, ◌∙◌, ap}
 use Rattle.std.specs.Option.{option_to_list}
 use Rattle.std.proofs.lemmas.List.{map-append}
-use Rattle.teb_names.specs.declared.Session.{Session}
+use Rattle.teb_rules.specs.declared.names.Session.{Session}
 use Rattle.hall_server.specs.declared.server.Server.{Ghosts}
 use Rattle.session_server.specs.Passes.{IsPassOf, IsNew, number_of}
 use Rattle.session_server.specs.declared.hall.HallOf.{HallOf}

@@ -3,8 +3,8 @@
 use engine_core::Engine;
 use hall_server::{Failure, Fault, Server};
 use std::alloc::Global;
-use teb_history::History;
-use teb_names::{Reply, Request, Session};
+use teb_rules::history::History;
+use teb_rules::names::{Reply, Request, Session};
 use version_chain::Chains;
 
 /// An engine, as a hall serves it.

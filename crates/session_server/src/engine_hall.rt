@@ -1,8 +1,8 @@
 //! The hall over an engine.
 
 ghost use Rattle.std.specs.Prelude.{◌≡◌, ◌≤◌, ◌↔◌, [], All, map, Ok, Err, IfOk, IfErr};
-ghost use Rattle.teb_names.specs.declared.TheConstants.{SESSIONS};
-ghost use Rattle.teb_history.specs.Phases.{numbers};
+ghost use Rattle.teb_rules.specs.declared.names.TheConstants.{SESSIONS};
+ghost use Rattle.teb_rules.specs.history.Phases.{numbers};
 ghost use Rattle.teb_rules.specs.Run.{IsLegal, history_of};
 ghost use Rattle.turn_lock.specs.Counts.{HasAll};
 ghost use Rattle.session_server.specs.Passes.{base_of, number_of, IsNew, IsPassOf, IsWithin, Turned, Asked, Unasked};
@@ -17,7 +17,7 @@ use crate::pass::{MOST_ASKS, Pass};
 use engine_core::Engine;
 use std::alloc::Global;
 use std::sync::Wait;
-use teb_names::{MOST_TXNS, Reply, Request};
+use teb_rules::names::{MOST_TXNS, Reply, Request};
 use version_chain::Chains;
 
 impl<C: Chains> Hall<C> {

@@ -1,7 +1,7 @@
 //! Why a request was not asked, or has no reply.
 
 use hall_server::Fault;
-use teb_names::Reply;
+use teb_rules::names::Reply;
 
 /// Why a request of a session at an engine was not asked.
 #[derive(Clone, Copy, Debug, PartialEq, Eq)]

@@ -1,7 +1,7 @@
 //! The hall.
 
 ghost use Rattle.std.specs.Prelude.{◌≡◌};
-ghost use Rattle.teb_names.specs.declared.TheConstants.{MOST_TXNS, SESSIONS};
+ghost use Rattle.teb_rules.specs.declared.names.TheConstants.{MOST_TXNS, SESSIONS};
 ghost use Rattle.turn_lock.specs.Seats.{note_count, owner_count};
 
 use crate::engine::EngineServer;

@@ -1,12 +1,12 @@
 //! The value of the turn: the server, with the list of its requests and replies.
 
 ghost use Rattle.std.specs.Prelude.{◌≡◌, suc, ◌≤◌, [], ◌++◌, IsErrOf, length};
-ghost use Rattle.teb_names.specs.declared.TheConstants.{MOST_TXNS};
-ghost use Rattle.teb_names.specs.declared.Reply.{Reply as TheReply};
-ghost use Rattle.teb_history.specs.Phases.{begun_count};
+ghost use Rattle.teb_rules.specs.declared.names.TheConstants.{MOST_TXNS};
+ghost use Rattle.teb_rules.specs.declared.names.Reply.{Reply as TheReply};
+ghost use Rattle.teb_rules.specs.history.Phases.{begun_count};
 ghost use Rattle.teb_rules.specs.Answer.{answer};
 ghost use Rattle.teb_rules.specs.Run.{IsLegal, history_of};
-ghost use Rattle.teb_history.specs.Positions.{upto};
+ghost use Rattle.teb_rules.specs.history.Positions.{upto};
 ghost use Rattle.hall_server.specs.Told.{IsToldBy, told};
 ghost use Rattle.hall_server.specs.declared.failure.Failure.TheVariants as failures;
 ghost use Rattle.session_server.specs.Finishes.{finish_word};
@@ -15,7 +15,7 @@ ghost use Rattle.session_server.specs.Growth.{GrowsBy, own_of};
 use crate::outfit::Outfit;
 use hall_server::{Failure, Fault, Server};
 use std::alloc::Global;
-use teb_names::{Entry, Reply, Request, Session};
+use teb_rules::names::{Entry, Reply, Request, Session};
 use turn_lock::Member;
 
 /// A server with its entries: one for each request that its history has, in the order in which they were answered.

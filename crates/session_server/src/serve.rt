@@ -1,7 +1,7 @@
 //! A request of a session at any server.
 
 ghost use Rattle.std.specs.Prelude.{◌≡◌, ◌↔◌, Err, IfOk, IsErrOf};
-ghost use Rattle.teb_names.specs.declared.Reply.{Reply as TheReply};
+ghost use Rattle.teb_rules.specs.declared.names.Reply.{Reply as TheReply};
 ghost use Rattle.hall_server.specs.declared.failure.Fault.{Fault as TheFault};
 ghost use Rattle.session_server.specs.Passes.{base_of, IsPassOf, Turned, Asked, Unasked};
 ghost use Rattle.session_server.specs.Waits.{WaitsAmong};
@@ -13,7 +13,7 @@ use crate::pass::{MOST_ASKS, PassOf};
 use crate::taking::take_turn;
 use hall_server::{Failure, Server};
 use std::sync::Wait;
-use teb_names::{MOST_TXNS, Reply, Request};
+use teb_rules::names::{MOST_TXNS, Reply, Request};
 
 impl<S: Server> HallOf<S> {
     /// Asks the server at this session's turn. It waits for the turn.

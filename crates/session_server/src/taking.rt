@@ -1,7 +1,7 @@
 //! One turn at the server.
 
 ghost use Rattle.std.specs.Prelude.{◌≡◌, ◌<◌, ◌∷◌, [], Some, IsErrOf};
-ghost use Rattle.teb_names.specs.declared.Reply.{Reply as TheReply};
+ghost use Rattle.teb_rules.specs.declared.names.Reply.{Reply as TheReply};
 ghost use Rattle.turn_lock.specs.Seats.{note_count, view_of, IsOf, IsOutside};
 ghost use Rattle.hall_server.specs.Told.{told};
 ghost use Rattle.hall_server.specs.declared.failure.Failure.TheVariants as failures;
@@ -13,7 +13,7 @@ use crate::hosted::Hosted;
 use crate::published::publish_since;
 use hall_server::{Failure, Server};
 use std::sync::Wait;
-use teb_names::{MOST_TXNS, Reply, Request, Session};
+use teb_rules::names::{MOST_TXNS, Reply, Request, Session};
 use turn_lock::{SeatOf, Turn};
 
 /// Enters, asks, publishes the finishes, and leaves. It adds the entry of the request if the history has it, and no other.

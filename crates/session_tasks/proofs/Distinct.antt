@@ -1,8 +1,8 @@
 -- Scripts in ascending order have distinct sessions.
 use Rattle.std.proofs.Common.{◌≡◌, ℕ, zero, suc, ◌≤◌, List, [], ◌∷◌, map, Some, refl, ap, arith}
 use Rattle.std.specs.List.{slice_get}
-use Rattle.teb_names.specs.declared.Session.{Session}
-use Rattle.teb_names.specs.declared.Request.{Request}
+use Rattle.teb_rules.specs.declared.names.Session.{Session}
+use Rattle.teb_rules.specs.declared.names.Request.{Request}
 use Rattle.script_text.specs.declared.Line.{Line}
 use Rattle.teb_rules.specs.Driver.{Ascending}
 use Rattle.script_walk.specs.ScriptStates.{requests_on}

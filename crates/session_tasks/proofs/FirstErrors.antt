@@ -4,8 +4,8 @@ use Rattle.std.specs.List.{Contains}
 use Rattle.std.proofs.lemmas.Bool.{cases_lt}
 use Rattle.std.proofs.lemmas.List.{map-append, get_or-map, get_or_append_left, get_or_at, length-map}
 use Rattle.std.proofs.lemmas.List.Elements.{All-nil, All-push, All-contains_itself}
-use Rattle.teb_history.specs.Phases.{numbers}
-use Rattle.teb_names.specs.declared.TheConstants.{SESSIONS}
+use Rattle.teb_rules.specs.history.Phases.{numbers}
+use Rattle.teb_rules.specs.declared.names.TheConstants.{SESSIONS}
 use Rattle.session_server.specs.Halls.{Ghosts, Hall}
 use Rattle.session_tasks.specs.declared.error.RunError.{RunError}
 use Rattle.session_tasks.specs.declared.task.Task.{Task}

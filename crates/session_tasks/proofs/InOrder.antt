@@ -4,7 +4,7 @@ use Rattle.std.proofs.lemmas.List.{map-append, length-map}
 use Rattle.std.proofs.lemmas.List.Elements.{All-push, All-set}
 use Rattle.std.proofs.Math.Seq.{map-set_same}
 use Rattle.std.proofs.lemmas.Bool.{cases_lt}
-use Rattle.teb_history.specs.Phases.{numbers}
+use Rattle.teb_rules.specs.history.Phases.{numbers}
 use Rattle.turn_lock.specs.Counts.{count_from}
 use Rattle.turn_lock.proofs.Lists.{All_none, All_left, All_last}
 use Rattle.session_server.specs.Halls.{Ghosts, Hall, Pass}
@@ -12,7 +12,7 @@ use Rattle.session_server.specs.Passes.{IsNew, number_of}
 use Rattle.session_tasks.specs.Scripted.{Scripted}
 use Rattle.session_tasks.specs.Tasks.{AreTasks, IsTask, number_in}
 use Rattle.session_tasks.specs.declared.task.Task.{Task}
-use Rattle.teb_names.specs.declared.TheConstants.{SESSIONS}
+use Rattle.teb_rules.specs.declared.names.TheConstants.{SESSIONS}
 
 -- equal lists have equal last elements
 pub last_same : {A : Type 0} (xs ys : List A) (x y : A) → xs ++ x ∷ [] ≡ ys ++ y ∷ [] → (xs ≡ ys) × (x ≡ y)

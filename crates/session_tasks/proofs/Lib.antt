@@ -1,3 +1,4 @@
+pub mod lemmas
 pub mod Placing
 pub mod InOrder
 pub mod TaskStages

@@ -1,8 +1,8 @@
 -- A task when it begins, while it is served, and when it ends.
 use Rattle.std.proofs.Common.{◌≡◌, ◌≢◌, ℕ, List, [], Option, Some, None, refl, sym, ◌∙◌, ap, subst}
 use Rattle.std.specs.List.{slice_get}
-use Rattle.teb_names.specs.declared.Entry.{Entry}
-use Rattle.teb_names.specs.declared.Session.{Session}
+use Rattle.teb_rules.specs.declared.names.Entry.{Entry}
+use Rattle.teb_rules.specs.declared.names.Session.{Session}
 use Rattle.teb_rules.specs.Run.{replies_of}
 use Rattle.teb_rules.specs.Scripts.{IsWay, IsWalk, WayFrom, at_first, next, state_after, entries_of}
 use Rattle.script_text.specs.declared.Line.{Line}

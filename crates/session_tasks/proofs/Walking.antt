@@ -1,14 +1,14 @@
 -- A walk advances by one entry.
 use Rattle.std.proofs.Common.{◌≡◌, List, [], ◌∷◌, ◌++◌, Some, None, sym, ◌∙◌, ap, subst}
 use mathlib.Core.List.{map-append}
-use Rattle.teb_names.specs.declared.Entry.{Entry}
-use Rattle.teb_names.specs.declared.Session.{Session}
+use Rattle.teb_rules.specs.declared.names.Entry.{Entry}
+use Rattle.teb_rules.specs.declared.names.Session.{Session}
 use Rattle.session_server.specs.Halls.{Ghosts, Pass}
 use Rattle.session_server.specs.Passes.{seen, mine}
-use Rattle.teb_names.specs.declared.Request.{Request}
+use Rattle.teb_rules.specs.declared.names.Request.{Request}
 use Rattle.teb_rules.specs.Run.{replies_of}
 use Rattle.teb_rules.specs.Scripts.{ScriptState, IsWay, IsWalk, after_answer, asks, at_first, next, state_after, entries_of}
-use Rattle.teb_laws.proofs.Runs.{state_push, way_push}
+use Rattle.teb_rules.proofs.lemmas.laws.Runs.{state_push, way_push}
 use Rattle.script_text.specs.declared.Line.{Line}
 use Rattle.script_walk.specs.ScriptStates.{requests_on, state_of}
 use Rattle.session_tasks.specs.Walks.{IsUnderWay}

@@ -1,6 +1,6 @@
 -- Which error a run comes to.
 use Rattle.std.specs.Prelude.{◌≡◌, ◌≢◌, ℕ, suc, List, All, map}
-use Rattle.teb_history.specs.Phases.{numbers}
+use Rattle.teb_rules.specs.history.Phases.{numbers}
 use Rattle.session_server.specs.Halls.{Ghosts, Pass}
 use Rattle.session_server.specs.declared.error.AskError.{AskError}
 use Rattle.session_server.specs.declared.error.AskError.TheVariants as ask

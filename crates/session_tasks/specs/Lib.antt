@@ -1,3 +1,5 @@
+pub mod threads
+pub mod pool
 pub mod Errors
 pub mod Looks
 pub mod Scripted

@@ -1,6 +1,6 @@
 -- Which script is a session's.
 use Rattle.std.specs.Prelude.{◌≡◌, ℕ, suc, ◌==◌, if◌then◌else◌, List, [], ◌∷◌, Option, Some, None, slice_get, option_map, unwrap_or}
-use Rattle.teb_names.specs.declared.Session.{Session}
+use Rattle.teb_rules.specs.declared.names.Session.{Session}
 use Rattle.script_text.specs.declared.Line.{Line}
 
 abbrev pub Scripted : Type 0

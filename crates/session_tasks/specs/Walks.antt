@@ -1,6 +1,6 @@
 -- Where a session stands in its script.
 use Rattle.std.specs.Prelude.{◌≡◌, ℕ, List, slice_get, option_map, unwrap_or}
-use Rattle.teb_names.specs.declared.Entry.{Entry}
+use Rattle.teb_rules.specs.declared.names.Entry.{Entry}
 use Rattle.teb_rules.specs.Run.{replies_of}
 use Rattle.teb_rules.specs.Scripts.{IsWay, at_first, state_after}
 use Rattle.script_text.specs.declared.Line.{Line}

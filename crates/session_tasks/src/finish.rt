@@ -2,7 +2,7 @@
 
 ghost use Rattle.std.specs.Prelude.{◌≡◌, ◌≢◌, All, map, IfOk, IfErr};
 ghost use Rattle.std.specs.List.{Contains};
-ghost use Rattle.teb_history.specs.Phases.{numbers};
+ghost use Rattle.teb_rules.specs.history.Phases.{numbers};
 ghost use Rattle.session_server.specs.Passes.{number_of};
 ghost use Rattle.session_tasks.specs.Scripted.{AreDistinct};
 ghost use Rattle.session_tasks.specs.Tasks.{IsTask, AreTasks};
@@ -20,7 +20,7 @@ use session_server::{AskError, Pass};
 use std::alloc::Global;
 use std::collections::VecDeque;
 use std::sync::Wait;
-use teb_names::SESSIONS;
+use teb_rules::names::SESSIONS;
 use version_chain::Chains;
 
 impl<C: Chains, G: Gate> Run<'_, C, G> {

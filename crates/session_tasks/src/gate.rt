@@ -1,6 +1,6 @@
 //! A hook around each request, outside the turn.
 
-use teb_names::Session;
+use teb_rules::names::Session;
 
 /// A hook that is called around each request of [`serve`](crate::serve), while its session does not have the turn.
 pub trait Gate {

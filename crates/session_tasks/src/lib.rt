@@ -1,7 +1,7 @@
-//! Sessions as tasks: each with its pass, and its place in its script.
+//! The sessions of a script as tasks of threads: each with its pass, and its place in its script.
 //!
-//! `thread_runner` and `session_pool` run sessions in threads. Both begin a task for each session, have workers serve the tasks,
-//! put them in the order of their sessions, and finish the run.
+//! [`threads`] deals the tasks to its workers, and in [`pool`] workers take them from a queue. Both begin a task for each session,
+//! have workers serve the tasks, put them in the order of their sessions, and finish the run.
 //!
 //! | Call | |
 //! |---|---|
@@ -36,11 +36,13 @@ mod finish;
 mod gate;
 mod hands;
 mod place;
+pub mod pool;
 mod run;
 mod serving;
 mod start;
 mod stop;
 mod task;
+pub mod threads;
 
 pub use error::RunError;
 pub use gate::Gate;

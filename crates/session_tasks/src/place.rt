@@ -4,7 +4,7 @@ ghost use Rattle.std.specs.Prelude.{◌≡◌, ◌<◌, IfSome, length};
 ghost use Rattle.session_tasks.specs.Scripted.{place_in, lines_at};
 
 use script_text::{Line, Scripts};
-use teb_names::Session;
+use teb_rules::names::Session;
 
 /// Returns the place of a session among those with a script.
 pub fn place_in(scripts: &Scripts, session: Session) -> Option<usize>

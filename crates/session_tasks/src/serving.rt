@@ -21,7 +21,7 @@ use session_server::{AskError, Hall, MOST_ASKS, Pass, Poll};
 use std::sync::Wait;
 use std::sync::atomic::{AtomicIn, Rule};
 use std::thread;
-use teb_names::{MOST_TXNS, Reply, Request, Txn};
+use teb_rules::names::{MOST_TXNS, Reply, Request, Txn};
 use version_chain::Chains;
 
 /// How often a session looks at the transaction that it waits for before it asks again.

@@ -2,8 +2,8 @@
 
 ghost use Rattle.std.specs.Prelude.{◌≡◌, All, map};
 ghost use Rattle.std.proofs.Props.{props};
-ghost use Rattle.teb_names.specs.declared.TheConstants.{SESSIONS};
-ghost use Rattle.teb_history.specs.Phases.{numbers};
+ghost use Rattle.teb_rules.specs.declared.names.TheConstants.{SESSIONS};
+ghost use Rattle.teb_rules.specs.history.Phases.{numbers};
 ghost use Rattle.session_server.specs.Passes.{IsNew, number_of};
 
 use crate::run::Run;

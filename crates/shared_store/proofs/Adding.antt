@@ -1,8 +1,8 @@
 -- What a turn adds to the list.
 use Rattle.std.proofs.Common.{◌≡◌, ◌≢◌, Result, Ok, Err, ℕ, suc, List, [], ◌∷◌, ◌++◌, All, append-nil, append_assoc, refl, sym, ◌∙◌, ap, subst, arith}
-use Rattle.teb_names.specs.declared.Reply.{Reply as TheReply}
-use Rattle.teb_names.specs.declared.Request.{Request}
-use Rattle.teb_names.specs.declared.Session.{Session}
+use Rattle.teb_rules.specs.declared.names.Reply.{Reply as TheReply}
+use Rattle.teb_rules.specs.declared.names.Request.{Request}
+use Rattle.teb_rules.specs.declared.names.Session.{Session}
 use Rattle.turn_lock.proofs.Lists.{All_map, All_none, All_cons}
 use Rattle.shared_store.specs.declared.entry.LifeEntry.{LifeEntry}
 use Rattle.shared_store.specs.declared.entry.LifeEntry.TheVariants.{Asked, Taken}

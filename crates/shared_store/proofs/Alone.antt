@@ -6,11 +6,11 @@ use Rattle.std.proofs.lemmas.Cmp.{tied_itself}
 use Rattle.std.specs.Ordering.{is_lt, is_eq, ordering_reverse}
 use Rattle.std.specs.declared.cmp.Ordering.{Ordering}
 use Rattle.std.specs.declared.cmp.Ordering.TheVariants.{Less, Equal, Greater}
-use Rattle.teb_names.specs.declared.Cell.{Cell}
-use Rattle.teb_names.specs.Cells.{same_cell, cell_cmp, is_before}
-use Rattle.teb_names.specs.Rows.{row_of, is_ascending}
-use Rattle.teb_names.proofs.CellOrder.{same_cell-cell_cmp, cell_cmp_total, before_less}
-use Rattle.teb_names.proofs.SameCells.{same_cell-true, same_itself}
+use Rattle.teb_rules.specs.declared.names.Cell.{Cell}
+use Rattle.teb_rules.specs.names.Cells.{same_cell, cell_cmp, is_before}
+use Rattle.teb_rules.specs.names.Rows.{row_of, is_ascending}
+use Rattle.teb_rules.proofs.lemmas.names.CellOrder.{same_cell-cell_cmp, cell_cmp_total, before_less}
+use Rattle.teb_rules.proofs.lemmas.names.SameCells.{same_cell-true, same_itself}
 
 abbrev Row : Type 0
 Row = Cell × ℤ

@@ -1,10 +1,10 @@
 -- What a call changes in a session, by what its seats have seen.
 use Rattle.std.proofs.Common.{◌≡◌, ◌≢◌, Result, Ok, Err, ℕ, ◌+◌, ◌*◌, ◌≤◌, List, ◌++◌, Some, append_assoc, refl, ◌∙◌, ap, subst, arith}
 use Rattle.std.specs.Prelude.{IfOk, IsTrue}
-use Rattle.teb_names.specs.declared.Reply.{Reply as TheReply}
-use Rattle.teb_names.specs.declared.Reply.TheVariants.{Committed}
-use Rattle.teb_names.specs.declared.Request.{Request}
-use Rattle.teb_names.specs.declared.Session.{Session}
+use Rattle.teb_rules.specs.declared.names.Reply.{Reply as TheReply}
+use Rattle.teb_rules.specs.declared.names.Reply.TheVariants.{Committed}
+use Rattle.teb_rules.specs.declared.names.Request.{Request}
+use Rattle.teb_rules.specs.declared.names.Session.{Session}
 use Rattle.turn_lock.specs.declared.view.View.{View}
 use Rattle.turn_lock.specs.Seats.{view_of}
 use Rattle.shared_store.specs.declared.entry.LifeEntry.{LifeEntry}

@@ -1,22 +1,22 @@
 -- A request adds a commit to the history if and only if its reply is Committed.
 use Rattle.std.proofs.Common.{◌≡◌, ◌+◌, ℕ, Bool, true, false, cond, not, ◌&&◌, ltb, leb, List, [], ◌∷◌, Option, Some, None, refl, ap, arith, unwrap_or, is_none, ℤ, ◌+ℤ◌}
-use Rattle.teb_names.specs.declared.TheConstants.{MOST_TXNS, SESSIONS}
-use Rattle.teb_names.specs.declared.Session.{Session}
-use Rattle.teb_names.specs.declared.Cell.{Cell}
-use Rattle.teb_names.specs.declared.Spot.{Spot}
-use Rattle.teb_names.specs.declared.Cause.{Cause}
-use Rattle.teb_names.specs.declared.Cause.TheVariants.{Newer, After, Asked, Ended}
-use Rattle.teb_names.specs.declared.Request.{Request}
-use Rattle.teb_names.specs.declared.Request.TheVariants.{Begin, Read, Write, Add, Delete, Scan, Prepare, Commit, Abort, End}
-use Rattle.teb_names.specs.declared.Refusal.{Refusal}
-use Rattle.teb_names.specs.declared.Refusal.TheVariants.{BadSession, InTxn, UnknownType, Full, NoTxn, UnknownTable, NotInProfile, Range, NotRead, Overflow}
-use Rattle.teb_names.specs.declared.Refusal.TheVariants.{Prepared as IsPrepared}
-use Rattle.teb_names.specs.declared.Reply.TheVariants.{Done, Prepared, Committed, Again, Aborted}
-use Rattle.teb_history.specs.declared.Event.{Event}
-use Rattle.teb_history.specs.declared.Event.TheVariants.{Got, Put, Ready, Gone, Told}
-use Rattle.teb_history.specs.declared.Event.TheVariants.{Done as Finished}
-use Rattle.teb_history.specs.Phases.{begun_count, held, aborted, prepared, cause_of, kind_of}
-use Rattle.teb_history.specs.Accesses.{last_put, last_got}
+use Rattle.teb_rules.specs.declared.names.TheConstants.{MOST_TXNS, SESSIONS}
+use Rattle.teb_rules.specs.declared.names.Session.{Session}
+use Rattle.teb_rules.specs.declared.names.Cell.{Cell}
+use Rattle.teb_rules.specs.declared.names.Spot.{Spot}
+use Rattle.teb_rules.specs.declared.names.Cause.{Cause}
+use Rattle.teb_rules.specs.declared.names.Cause.TheVariants.{Newer, After, Asked, Ended}
+use Rattle.teb_rules.specs.declared.names.Request.{Request}
+use Rattle.teb_rules.specs.declared.names.Request.TheVariants.{Begin, Read, Write, Add, Delete, Scan, Prepare, Commit, Abort, End}
+use Rattle.teb_rules.specs.declared.names.Refusal.{Refusal}
+use Rattle.teb_rules.specs.declared.names.Refusal.TheVariants.{BadSession, InTxn, UnknownType, Full, NoTxn, UnknownTable, NotInProfile, Range, NotRead, Overflow}
+use Rattle.teb_rules.specs.declared.names.Refusal.TheVariants.{Prepared as IsPrepared}
+use Rattle.teb_rules.specs.declared.names.Reply.TheVariants.{Done, Prepared, Committed, Again, Aborted}
+use Rattle.teb_rules.specs.declared.history.Event.{Event}
+use Rattle.teb_rules.specs.declared.history.Event.TheVariants.{Got, Put, Ready, Gone, Told}
+use Rattle.teb_rules.specs.declared.history.Event.TheVariants.{Done as Finished}
+use Rattle.teb_rules.specs.history.Phases.{begun_count, held, aborted, prepared, cause_of, kind_of}
+use Rattle.teb_rules.specs.history.Accesses.{last_put, last_got}
 use Rattle.teb_rules.specs.Setup.{Setup, Store, profile}
 use Rattle.teb_rules.specs.Steps.{least_step, cursor}
 use Rattle.teb_rules.specs.Cascade.{txn, abort, fall_in_turn, cascade, blamed}

@@ -1,8 +1,8 @@
 -- What a session's seat sees in a call.
 use Rattle.std.proofs.Common.{◌≡◌, ℕ, List, [], ◌∷◌, ◌++◌, append_assoc, sym, ◌∙◌, ap, subst}
-use Rattle.teb_names.specs.declared.Reply.{Reply as TheReply}
-use Rattle.teb_names.specs.declared.Request.{Request}
-use Rattle.teb_names.specs.declared.Session.{Session}
+use Rattle.teb_rules.specs.declared.names.Reply.{Reply as TheReply}
+use Rattle.teb_rules.specs.declared.names.Request.{Request}
+use Rattle.teb_rules.specs.declared.names.Session.{Session}
 use Rattle.turn_lock.specs.declared.view.View.{View}
 use Rattle.shared_store.specs.declared.entry.LifeEntry.{LifeEntry}
 use Rattle.shared_store.specs.declared.entry.LifeEntry.TheVariants.{Asked}

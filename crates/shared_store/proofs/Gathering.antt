@@ -3,8 +3,8 @@ use Rattle.std.proofs.Common.{◌≡◌, ℕ, suc, ◌+◌, ◌<◌, ◌≤◌, 
 use Rattle.std.proofs.lemmas.List.{length-map}
 use Rattle.std.proofs.lemmas.Bool.{cases_lt}
 use mathlib.Core.List.{map-append}
-use Rattle.teb_names.specs.declared.TheConstants.{SESSIONS}
-use Rattle.teb_history.specs.declared.Event.{Event}
+use Rattle.teb_rules.specs.declared.names.TheConstants.{SESSIONS}
+use Rattle.teb_rules.specs.declared.history.Event.{Event}
 use Rattle.teb_rules.specs.Setup.{Store}
 use Rattle.turn_lock.specs.declared.turn.Turn.{Turn}
 use Rattle.turn_lock.specs.declared.turn.Seat.{Seat}

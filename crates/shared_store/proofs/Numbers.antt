@@ -1,10 +1,10 @@
 -- The session numbers.
 use Rattle.std.proofs.Common.{◌≡◌, ℕ, zero, suc, ◌≤◌, List, [], ◌∷◌, inl, inr, sym, subst, arith}
 use Rattle.std.proofs.lemmas.Bool.{cases_lt}
-use Rattle.teb_history.specs.Phases.{numbers}
+use Rattle.teb_rules.specs.history.Phases.{numbers}
 use Rattle.turn_lock.specs.Counts.{Has, HasAll}
 use Rattle.turn_lock.proofs.Counts.{same_yes, times_append}
-use Rattle.teb_names.specs.declared.TheConstants.{SESSIONS}
+use Rattle.teb_rules.specs.declared.names.TheConstants.{SESSIONS}
 
 numbers_has : (n x : ℕ) → 1 ≤ x → x ≤ n → Has (numbers n) x
 unfolding numbers

@@ -1,6 +1,6 @@
 -- What is told of a store that was closed.
 use Rattle.std.specs.Prelude.{ℕ, ◌≤◌, Bool, List, All}
-use Rattle.teb_history.specs.declared.Event.{Event}
+use Rattle.teb_rules.specs.declared.history.Event.{Event}
 use Rattle.teb_rules.specs.Setup.{Store}
 use Rattle.shared_store.specs.declared.entry.LifeEntry.{LifeEntry}
 use Rattle.shared_store.specs.declared.server.EpochServer.{Ghosts}

@@ -1,7 +1,7 @@
 -- How many commits a reply is.
 use Rattle.std.specs.Prelude.{ℕ}
-use Rattle.teb_names.specs.declared.Reply.{Reply}
-use Rattle.teb_names.specs.declared.Reply.TheVariants.{Committed}
+use Rattle.teb_rules.specs.declared.names.Reply.{Reply}
+use Rattle.teb_rules.specs.declared.names.Reply.TheVariants.{Committed}
 
 -- 1 for a Committed, and else 0
 abbrev pub commits_in : Reply → ℕ

@@ -1,6 +1,6 @@
 -- A server with the list of its life.
 use Rattle.std.specs.Prelude.{◌≡◌, ℕ, ◌+◌, ◌≤◌, Bool, false, List}
-use Rattle.teb_history.specs.declared.Event.{Event}
+use Rattle.teb_rules.specs.declared.history.Event.{Event}
 use Rattle.teb_rules.specs.Setup.{Store}
 use Rattle.commit_laws.specs.Commits.{commit_count}
 use Rattle.shared_store.specs.declared.entry.LifeEntry.{LifeEntry}

@@ -1,9 +1,9 @@
 -- The one list of a store's whole life, and when it is legal.
 use Rattle.std.specs.Prelude.{◌≡◌, ℕ, ◌==◌, ◌&&◌, ◌||◌, Bool, true, false, cond, List, [], ◌∷◌, Option, Some, None, filter}
 use Rattle.std.specs.List.{list_any}
-use Rattle.teb_names.specs.declared.Reply.{Reply}
-use Rattle.teb_names.specs.declared.Request.{Request}
-use Rattle.teb_names.specs.declared.Session.{Session}
+use Rattle.teb_rules.specs.declared.names.Reply.{Reply}
+use Rattle.teb_rules.specs.declared.names.Request.{Request}
+use Rattle.teb_rules.specs.declared.names.Session.{Session}
 use Rattle.short_reply.specs.declared.ShortReply.{ShortReply}
 use Rattle.short_reply.specs.ShortReplies.{full_reply, HasValues}
 use Rattle.shared_store.specs.declared.entry.LifeEntry.{LifeEntry}

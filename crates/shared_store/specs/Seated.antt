@@ -1,6 +1,6 @@
 -- What the log knows by its seat at the front turn.
 use Rattle.std.specs.Prelude.{◌≡◌, ℕ, ◌≤◌, Bool, List, [], ◌∷◌, Some}
-use Rattle.teb_history.specs.declared.Event.{Event}
+use Rattle.teb_rules.specs.declared.history.Event.{Event}
 use Rattle.teb_rules.specs.Setup.{Store}
 use Rattle.turn_lock.specs.declared.view.View.{View}
 use Rattle.shared_store.specs.declared.entry.LifeEntry.{LifeEntry}

@@ -1,12 +1,12 @@
 -- Where a server is, and what it makes of a request and of the end of an epoch.
 use Rattle.std.specs.Prelude.{◌≡◌, ℕ, ℤ, List, [], Some, IsTrue, Result, Ok, Err}
-use Rattle.teb_names.specs.declared.Cell.{Cell}
-use Rattle.teb_names.specs.declared.Reply.{Reply}
-use Rattle.teb_names.specs.declared.Request.{Request}
-use Rattle.teb_names.specs.declared.Session.{Session}
-use Rattle.teb_names.specs.Rows.{row_of, IsAscending}
-use Rattle.teb_history.specs.declared.Event.{Event}
-use Rattle.teb_history.specs.Phases.{unfinished, aborted, held}
+use Rattle.teb_rules.specs.declared.names.Cell.{Cell}
+use Rattle.teb_rules.specs.declared.names.Reply.{Reply}
+use Rattle.teb_rules.specs.declared.names.Request.{Request}
+use Rattle.teb_rules.specs.declared.names.Session.{Session}
+use Rattle.teb_rules.specs.names.Rows.{row_of, IsAscending}
+use Rattle.teb_rules.specs.declared.history.Event.{Event}
+use Rattle.teb_rules.specs.history.Phases.{unfinished, aborted, held}
 use Rattle.teb_rules.specs.Answer.{answer}
 use Rattle.teb_rules.specs.Serializes.{final_table}
 use Rattle.teb_rules.specs.Setup.{Store}

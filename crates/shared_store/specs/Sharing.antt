@@ -1,7 +1,7 @@
 -- What contracts see of a shared store and its sessions, and what a call adds.
 use Rattle.std.specs.Prelude.{◌≡◌, ℕ, ◌+◌, ◌≤◌, List, [], ◌∷◌, ◌++◌, Option, Some}
-use Rattle.teb_names.specs.declared.Reply.{Reply}
-use Rattle.teb_names.specs.declared.Request.{Request}
+use Rattle.teb_rules.specs.declared.names.Reply.{Reply}
+use Rattle.teb_rules.specs.declared.names.Request.{Request}
 use Rattle.short_reply.specs.declared.ShortReply.{ShortReply}
 use Rattle.turn_lock.specs.Seats.{base_in, view_of, IsOf}
 use Rattle.turn_lock.specs.declared.turn.Turn.{Turn}

@@ -1,8 +1,8 @@
 -- Where the life of a store is, and how an epoch follows another.
 use Rattle.std.specs.Prelude.{◌≡◌, ℕ, ◌+◌, Bool, true, false, []}
-use Rattle.teb_names.specs.declared.Reply.{Reply}
-use Rattle.teb_names.specs.declared.Request.{Request}
-use Rattle.teb_names.specs.declared.Session.{Session}
+use Rattle.teb_rules.specs.declared.names.Reply.{Reply}
+use Rattle.teb_rules.specs.declared.names.Request.{Request}
+use Rattle.teb_rules.specs.declared.names.Session.{Session}
 use Rattle.teb_rules.specs.Answer.{answer}
 use Rattle.commit_laws.specs.Commits.{commit_count}
 use Rattle.shared_store.specs.Served.{IsBegun, Standing}

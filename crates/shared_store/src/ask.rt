@@ -1,8 +1,8 @@
 //! A request of a session.
 
 ghost use Rattle.std.specs.Prelude.{◌≡◌, ◌≢◌, ◌≤◌, ◌↔◌, Err, IfOk, OnOk, IsErrOf};
-ghost use Rattle.teb_names.specs.declared.Reply.{Reply as TheReply};
-ghost use Rattle.teb_names.specs.declared.Reply.TheVariants as replies;
+ghost use Rattle.teb_rules.specs.declared.names.Reply.{Reply as TheReply};
+ghost use Rattle.teb_rules.specs.declared.names.Reply.TheVariants as replies;
 ghost use Rattle.shared_store.specs.declared.error.Fault.{Fault as TheFault};
 ghost use Rattle.shared_store.specs.declared.error.StoreError.TheVariants as errors;
 ghost use Rattle.shared_store.specs.declared.reply.StoreReply.TheVariants as store_replies;
@@ -16,7 +16,7 @@ use crate::session::{MOST_ASKS, StoreSession};
 use crate::store::Store;
 use std::alloc::Global;
 use std::sync::Wait;
-use teb_names::{Request, Session};
+use teb_rules::names::{Request, Session};
 
 impl<S: EpochServer> StoreSession<S> {
     /// Asks the store, at the turn of this session, for which it waits. A commit is answered once the log keeps it; commits of sessions that

@@ -19,7 +19,7 @@ use crate::session::StoreSession;
 use crate::store::Store;
 use std::alloc::Global;
 use std::sync::Wait;
-use teb_names::{Reply, Request};
+use teb_rules::names::{Reply, Request};
 
 impl<S: EpochServer> StoreSession<S> {
     /// Asks, and waits until the log keeps the commit, if it is one.

@@ -1,7 +1,7 @@
 //! How a store is closed.
 
 ghost use Rattle.std.specs.Prelude.{◌≡◌, ◌≤◌, false, All, map};
-ghost use Rattle.teb_names.specs.declared.TheConstants.{SESSIONS};
+ghost use Rattle.teb_rules.specs.declared.names.TheConstants.{SESSIONS};
 ghost use Rattle.turn_lock.specs.Counts.{HasAll};
 ghost use Rattle.shared_store.specs.declared.entry.TheConstants.{LOG_SEAT};
 ghost use Rattle.shared_store.specs.Closing.{IsKeptToTheEnd, LeadsToServer};

@@ -1,7 +1,7 @@
 //! The entries of a store's life.
 
 use short_reply::ShortReply;
-use teb_names::{Request, Session};
+use teb_rules::names::{Request, Session};
 
 /// The number that marks have in place of a session's: that of the seat with which the log's turn enters the front turn.
 pub const LOG_SEAT: u8 = 33;

@@ -1,7 +1,7 @@
 //! The value that goes from turn to turn at the front: the server, with what proofs know of its life.
 
 ghost use Rattle.std.specs.Prelude.{◌≡◌, ◌≢◌, ◌≤◌, [], ◌∷◌, ◌++◌, true, false, IfOk, IfErr};
-ghost use Rattle.teb_names.specs.declared.TheConstants.{SESSIONS};
+ghost use Rattle.teb_rules.specs.declared.names.TheConstants.{SESSIONS};
 ghost use Rattle.shared_store.specs.declared.entry.LifeEntry.TheVariants as entries;
 ghost use Rattle.shared_store.specs.declared.entry.TheConstants.{LOG_SEAT};
 ghost use Rattle.shared_store.specs.Beginning.{HasRoomFor, IsBegin};
@@ -24,7 +24,7 @@ use crate::server::{EpochServer, Obstacle};
 use crate::trace::Trace;
 use short_reply::ShortReply;
 use std::alloc::Global;
-use teb_names::{Reply, Request, SESSIONS, Session};
+use teb_rules::names::{Reply, Request, SESSIONS, Session};
 use turn_lock::Member;
 
 /// A server with its life: an entry for each request that its history has, for each time that the log took the commits that waited, and for

@@ -2,7 +2,7 @@
 
 use std::sync::{Condvar, Mutex, MutexGuard, Wait};
 use std::{hint, thread};
-use teb_names::{SESSIONS, Session};
+use teb_rules::names::{SESSIONS, Session};
 
 /// A place for each session, by its number.
 const PLACES: usize = SESSIONS as usize + 1;

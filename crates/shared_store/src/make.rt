@@ -1,7 +1,7 @@
 //! How a store is made, with its sessions.
 
 ghost use Rattle.std.specs.Prelude.{◌≡◌, ◌≤◌, [], false, All, map, IfOk, IfErr, vec_capacity};
-ghost use Rattle.teb_history.specs.Phases.{numbers};
+ghost use Rattle.teb_rules.specs.history.Phases.{numbers};
 ghost use Rattle.turn_lock.specs.Views.{first_view, remaining};
 ghost use Rattle.turn_lock.specs.Seats.{base_in, view_of, IsOf, IsOutside};
 ghost use Rattle.shared_store.specs.declared.entry.TheConstants.{LOG_SEAT};
@@ -20,7 +20,7 @@ use crate::session::{MOST_TURNS, StoreSession};
 use crate::store::Store;
 use std::alloc::Global;
 use std::sync::Mutex;
-use teb_names::{SESSIONS, Session};
+use teb_rules::names::{SESSIONS, Session};
 use turn_lock::{SeatOf, Turn};
 
 impl<S: EpochServer> Store<S> {

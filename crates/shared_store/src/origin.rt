@@ -1,7 +1,7 @@
 //! What contracts see of the beginning of a store's life.
 
 use std::marker::Model;
-use teb_history::Event;
+use teb_rules::history::Event;
 
 /// Where the life of a store begins. No value of it is made: it is for contracts and proofs.
 pub struct Origin {

@@ -1,7 +1,7 @@
 //! What a session is answered.
 
 use short_reply::ShortReply;
-use teb_names::Reply;
+use teb_rules::names::Reply;
 
 /// What a session is answered.
 #[derive(Clone, Copy, Debug, PartialEq, Eq)]

@@ -1,9 +1,9 @@
 //! What a shared store asks of what it serves.
 
 ghost use Rattle.std.specs.Prelude.{◌≡◌, ◌<◌, ℕ, List, [], Bool, false, true, None, OnOk, OnErr, IsErrOf};
-ghost use Rattle.teb_names.specs.declared.TheConstants.{MOST_TXNS};
-ghost use Rattle.teb_history.specs.declared.Event.{Event};
-ghost use Rattle.teb_history.specs.Phases.{begun_count};
+ghost use Rattle.teb_rules.specs.declared.names.TheConstants.{MOST_TXNS};
+ghost use Rattle.teb_rules.specs.declared.history.Event.{Event};
+ghost use Rattle.teb_rules.specs.history.Phases.{begun_count};
 ghost use Rattle.teb_rules.specs.Setup.{Store};
 ghost use Rattle.commit_laws.specs.Commits.{commit_count};
 ghost use Rattle.shared_store.specs.declared.error.Fault.TheVariants as faults;
@@ -11,7 +11,7 @@ ghost use Rattle.shared_store.specs.Served.{IsBegun, IsDrained, IsServed, Standi
 
 use crate::error::Fault;
 use std::alloc::Global;
-use teb_names::{Reply, Request, Session};
+use teb_rules::names::{Reply, Request, Session};
 
 /// What keeps an epoch from its end.
 #[derive(Clone, Copy, Debug, PartialEq, Eq)]

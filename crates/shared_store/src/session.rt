@@ -11,7 +11,7 @@ use crate::kept::Kept;
 use crate::origin::Origin;
 use crate::server::EpochServer;
 use crate::site::Site;
-use teb_names::Session;
+use teb_rules::names::Session;
 use turn_lock::Seat;
 
 /// How often a session may ask.

@@ -1,7 +1,7 @@
 //! What contracts see of the turn that a log belongs to.
 
 use std::marker::Model;
-use teb_history::Event;
+use teb_rules::history::Event;
 
 /// Which front turn a log belongs to, and where the life there begins. No value of it is made: it is for contracts and proofs.
 pub struct Site {

@@ -1,7 +1,7 @@
 //! A store that sessions share.
 
 ghost use Rattle.std.specs.Prelude.{◌≡◌, Some};
-ghost use Rattle.teb_names.specs.declared.TheConstants.{SESSIONS};
+ghost use Rattle.teb_rules.specs.declared.names.TheConstants.{SESSIONS};
 ghost use Rattle.turn_lock.specs.Seats.{base_in, owner_count};
 ghost use Rattle.shared_store.specs.declared.entry.TheConstants.{LOG_SEAT};
 ghost use Rattle.shared_store.specs.Hosting.{first_of};

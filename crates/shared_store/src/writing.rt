@@ -12,7 +12,7 @@ use crate::server::EpochServer;
 use crate::taking::{stop_front, take_batch};
 use std::alloc::Global;
 use std::sync::Wait;
-use teb_names::Session;
+use teb_rules::names::Session;
 use turn_lock::Turn;
 
 impl<S: EpochServer> Keeper<S> {

@@ -2,9 +2,9 @@
 use Rattle.std.specs.Prelude.{ℕ, if◌then◌else◌, List, [], ◌∷◌, codes, Option, Some, None, Result, Ok, Err}
 use Rattle.std.specs.Option.{ok_or, option_map}
 use Rattle.std.specs.Str.{bytes_eq}
-use Rattle.teb_names.specs.Names.{number_of}
-use Rattle.teb_names.specs.declared.Table.{Table}
-use Rattle.teb_names.specs.declared.naming.NameBook.{NameBook}
+use Rattle.teb_rules.specs.names.Names.{number_of}
+use Rattle.teb_rules.specs.declared.names.Table.{Table}
+use Rattle.teb_rules.specs.declared.names.naming.NameBook.{NameBook}
 use Rattle.script_text.specs.declared.error.LineWhy.{LineWhy}
 use Rattle.script_text.specs.declared.error.LineWhy.TheVariants as why
 use Rattle.script_text.specs.Grammar.{◌>>=◌, number_at}

@@ -1,7 +1,7 @@
 -- What a line of the shell asks.
 use Rattle.std.specs.Prelude.{ℕ, ◌==◌, if◌then◌else◌, List, [], ◌∷◌, Result, Ok, Err, slice_index}
 use Rattle.std.specs.Str.Lines.{strip_carriage_return}
-use Rattle.teb_names.specs.declared.naming.NameBook.{NameBook}
+use Rattle.teb_rules.specs.declared.names.naming.NameBook.{NameBook}
 use Rattle.script_text.specs.Grammar.{script_of}
 use Rattle.script_text.specs.Words.{words_of}
 use Rattle.script_text.specs.declared.Line.{Line}

@@ -1,15 +1,15 @@
 -- The sessions that hold a transaction.
 use Rattle.std.specs.Prelude.{ℕ, Bool, ◌+◌, ◌-◌, if◌then◌else◌, ◌&&◌, nat_le, List, [], ◌∷◌, ◌++◌, reverse, codes, decimal, get_or, replicate, set, Option, Some, None}
 use Rattle.std.specs.List.{flat_map}
-use Rattle.teb_names.specs.declared.TheConstants.{SESSIONS}
-use Rattle.teb_names.specs.declared.Session.{Session}
-use Rattle.teb_names.specs.declared.Txn.{Txn}
-use Rattle.teb_names.specs.declared.Reply.TheVariants.{Again}
-use Rattle.teb_names.specs.declared.naming.NameBook.{NameBook}
-use Rattle.teb_history.specs.declared.Event.{Event}
-use Rattle.teb_history.specs.OwnEvents.{is_of}
-use Rattle.teb_history.specs.Phases.{aborted, prepared, unfinished}
-use Rattle.teb_history.specs.Written.{held_txn}
+use Rattle.teb_rules.specs.declared.names.TheConstants.{SESSIONS}
+use Rattle.teb_rules.specs.declared.names.Session.{Session}
+use Rattle.teb_rules.specs.declared.names.Txn.{Txn}
+use Rattle.teb_rules.specs.declared.names.Reply.TheVariants.{Again}
+use Rattle.teb_rules.specs.declared.names.naming.NameBook.{NameBook}
+use Rattle.teb_rules.specs.declared.history.Event.{Event}
+use Rattle.teb_rules.specs.history.OwnEvents.{is_of}
+use Rattle.teb_rules.specs.history.Phases.{aborted, prepared, unfinished}
+use Rattle.teb_rules.specs.history.Written.{held_txn}
 use Rattle.teb_rules.specs.Tree.{below}
 use Rattle.script_text.specs.Texts.{event_text, line_text, name_of, txn_text}
 use Rattle.shell_lines.specs.Answers.{end_line}

@@ -9,7 +9,7 @@ use crate::{Checkpoint, Unable};
 use line_words::{Word, put_line, put_next};
 use script_text::LineWhy;
 use std::alloc::AllocError;
-use teb_names::{Names, Txn};
+use teb_rules::names::{Names, Txn};
 
 /// Appends that a line is bad, and why.
 pub fn put_bad(out: &mut Vec<u8>, number: u64, why: LineWhy) -> Result<(), AllocError>

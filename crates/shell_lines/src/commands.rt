@@ -4,12 +4,12 @@ ghost use Rattle.std.specs.Prelude.{◌≡◌, codes, Some};
 ghost use Rattle.std.specs.Str.{bytes_eq};
 ghost use Rattle.script_text.specs.Grammar.{number_at};
 ghost use Rattle.script_text.specs.Words.{nows};
-ghost use Rattle.teb_names.specs.Names.{number_of};
+ghost use Rattle.teb_rules.specs.names.Names.{number_of};
 ghost use Rattle.shell_lines.specs.Commands.{arguments_of, command_of, dot_of, lone, range_of, table_at, with_file};
 
 use crate::{RowRange, ShellLine};
 use script_text::{LineWhy, number};
-use teb_names::{NameBook, Names, Table};
+use teb_rules::names::{NameBook, Names, Table};
 
 /// The words that may begin such a line.
 #[derive(Clone, Copy)]

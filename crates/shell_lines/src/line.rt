@@ -1,7 +1,7 @@
 //! What a line of the shell asks.
 
 use script_text::LineWhy;
-use teb_names::{Request, Session, Table, Txn};
+use teb_rules::names::{Request, Session, Table, Txn};
 
 /// What a line of the shell asks.
 #[derive(Clone, Copy)]

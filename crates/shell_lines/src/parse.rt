@@ -11,7 +11,7 @@ use crate::ShellLine;
 use crate::commands::command_of;
 use script_text::{LineWhy, ScriptError, parse_script};
 use std::alloc::{AllocError, Global};
-use teb_names::NameBook;
+use teb_rules::names::NameBook;
 
 /// Returns what a line asks, without its line feed. `format` is that of the tree, as in scripts.
 pub fn parse_line(

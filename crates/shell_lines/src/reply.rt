@@ -5,7 +5,7 @@ ghost use Rattle.shell_lines.specs.Answers.{StoreReplyNamed, reply_line, short_l
 
 use line_words::{Word, put_line};
 use std::alloc::AllocError;
-use teb_names::{NameBook, Reply, Session};
+use teb_rules::names::{NameBook, Reply, Session};
 
 /// What a session is answered.
 #[derive(Clone, Copy)]

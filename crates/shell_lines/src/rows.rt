@@ -8,7 +8,7 @@ ghost use Rattle.shell_lines.specs.Answers.{at_most, is_of_table, is_selected, r
 use crate::RowRange;
 use line_words::{Word, put_line};
 use std::alloc::{AllocError, Global};
-use teb_names::{Cell, NameBook, Table};
+use teb_rules::names::{Cell, NameBook, Table};
 
 /// Appends those of the rows that are asked for, and the end.
 pub fn put_rows(

@@ -2,7 +2,7 @@
 
 ghost use Rattle.std.specs.Prelude.{◌≡◌, ◌++◌, ◌≤◌, All, OnOk, reverse};
 ghost use Rattle.std.specs.List.{flat_map};
-ghost use Rattle.teb_names.specs.declared.TheConstants.{SESSIONS as MOST};
+ghost use Rattle.teb_rules.specs.declared.names.TheConstants.{SESSIONS as MOST};
 ghost use Rattle.script_text.specs.Named.{EventNamed};
 ghost use Rattle.script_text.specs.Puts.{spaced};
 ghost use Rattle.shell_lines.specs.Sessions.{done_text, held_text, held_word, holder_line, holders_text, own_text, prompt_text, session_text, sessions_text, standing_words, wait_words};
@@ -11,8 +11,8 @@ use crate::{Wait, Waits};
 use line_words::{Word, name_at, put_line, put_next, put_spaced, put_word};
 use script_text::put_event;
 use std::alloc::AllocError;
-use teb_history::{Event, History};
-use teb_names::{NameBook, Names, SESSIONS, Session, Txn};
+use teb_rules::history::{Event, History};
+use teb_rules::names::{NameBook, Names, SESSIONS, Session, Txn};
 
 /// Appends the prompt, which shows each session that holds a transaction, and the transaction.
 pub fn put_prompt(out: &mut Vec<u8>, history: &History) -> Result<(), AllocError>

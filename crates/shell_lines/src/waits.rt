@@ -1,11 +1,11 @@
 //! Which transaction each session waits for.
 
 ghost use Rattle.std.specs.Prelude.{◌≡◌, ◌≤◌};
-ghost use Rattle.teb_names.specs.declared.TheConstants.{SESSIONS as MOST};
+ghost use Rattle.teb_rules.specs.declared.names.TheConstants.{SESSIONS as MOST};
 ghost use Rattle.shell_lines.specs.Sessions.{is_session, no_waits, noted, wait_in, wait_of};
 
 use crate::StoreReply;
-use teb_names::{Node, Reply, SESSIONS, Session, Txn};
+use teb_rules::names::{Node, Reply, SESSIONS, Session, Txn};
 
 /// The transaction that a session was told to wait for, and the node where the two meet.
 #[derive(Clone, Copy)]

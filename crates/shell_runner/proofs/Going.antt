@@ -8,13 +8,13 @@ use Rattle.std.proofs.Math.Seq.{take-append-add}
 use Rattle.std.proofs.lemmas.List.{append-nil}
 use Rattle.teb_io.specs.Bytes.{AppendsFront}
 use Rattle.line_reader.specs.Lines.{IsTooLong, ahead}
-use Rattle.teb_names.specs.declared.Request.TheVariants as request
-use Rattle.teb_names.specs.declared.Txn.{Txn}
-use Rattle.teb_names.specs.declared.naming.NameBook.{NameBook}
-use Rattle.teb_history.specs.declared.Event.{Event}
-use Rattle.teb_history.specs.Phases.{held}
-use Rattle.teb_history.specs.Written.{held_txn, txn_of}
-use Rattle.teb_names.specs.declared.Session.{Session}
+use Rattle.teb_rules.specs.declared.names.Request.TheVariants as request
+use Rattle.teb_rules.specs.declared.names.Txn.{Txn}
+use Rattle.teb_rules.specs.declared.names.naming.NameBook.{NameBook}
+use Rattle.teb_rules.specs.declared.history.Event.{Event}
+use Rattle.teb_rules.specs.history.Phases.{held}
+use Rattle.teb_rules.specs.history.Written.{held_txn, txn_of}
+use Rattle.teb_rules.specs.declared.names.Session.{Session}
 use Rattle.shell_lines.specs.declared.line.ShellLine.{ShellLine}
 use Rattle.shell_lines.specs.declared.line.Unable.{Unable}
 use Rattle.shell_lines.specs.declared.line.ShellLine.TheVariants.{Ask}
@@ -32,7 +32,7 @@ use Rattle.shell_runner.specs.declared.running.Flow.{Flow}
 use Rattle.shell_runner.specs.declared.running.Flow.TheVariants as flow
 use Rattle.shell_runner.specs.declared.step.After.{After}
 use Rattle.shell_runner.specs.declared.step.After.TheVariants.{Bad, Next, Quit, Stopped}
-use Rattle.teb_names.specs.declared.rows.TheConstants.{MOST_ROWS}
+use Rattle.teb_rules.specs.declared.names.rows.TheConstants.{MOST_ROWS}
 
 -- a text was appended, then a prefix of another: a prefix of both was appended
 pub appends_front : (a b c : Option (List ℕ)) (text more : List ℕ) → Appends a b text → AppendsFront b c more → AppendsFront a c (text ++ more)

@@ -1,26 +1,26 @@
 -- After the End of a session it holds no transaction, and all other sessions hold what they held.
 use Rattle.std.proofs.Common.{◌≡◌, ◌≢◌, ℕ, Bool, true, false, cond, ◌&&◌, ◌||◌, eqb, leb, List, [], ◌∷◌, find, Some, None, refl, sym, ◌∙◌, ap, subst, inl, inr, arith, eqb-true, unwrap_or}
 use Rattle.std.proofs.lemmas.Bool.{and_from, and_parts, both_ways, cases_eq, false_from_ne_true, le-leb}
-use Rattle.teb_names.specs.declared.TheConstants.{SESSIONS}
-use Rattle.teb_names.specs.declared.Session.{Session}
-use Rattle.teb_names.specs.declared.Cause.TheVariants.{Asked, Ended}
-use Rattle.teb_names.specs.declared.Reply.TheVariants.{Aborted}
-use Rattle.teb_names.specs.declared.Request.{Request}
-use Rattle.teb_names.specs.declared.Request.TheVariants as request
-use Rattle.teb_history.specs.declared.Event.{Event}
-use Rattle.teb_history.specs.declared.Event.TheVariants.{Told}
-use Rattle.teb_history.specs.Phases.{aborted, begun_count, cause_of, held, numbers, session_of, txns, unfinished, untold}
+use Rattle.teb_rules.specs.declared.names.TheConstants.{SESSIONS}
+use Rattle.teb_rules.specs.declared.names.Session.{Session}
+use Rattle.teb_rules.specs.declared.names.Cause.TheVariants.{Asked, Ended}
+use Rattle.teb_rules.specs.declared.names.Reply.TheVariants.{Aborted}
+use Rattle.teb_rules.specs.declared.names.Request.{Request}
+use Rattle.teb_rules.specs.declared.names.Request.TheVariants as request
+use Rattle.teb_rules.specs.declared.history.Event.{Event}
+use Rattle.teb_rules.specs.declared.history.Event.TheVariants.{Told}
+use Rattle.teb_rules.specs.history.Phases.{aborted, begun_count, cause_of, held, numbers, session_of, txns, unfinished, untold}
 use Rattle.teb_rules.specs.Setup.{Setup, Store}
 use Rattle.teb_rules.specs.Accepted.{IsSound}
 use Rattle.teb_rules.specs.Answer.{Answered, answer, answer_of}
 use Rattle.teb_rules.specs.Cascade.{abort, txn}
-use Rattle.teb_laws.specs.Lawful.{Lawful}
-use Rattle.teb_laws.specs.Laws.{reached}
-use Rattle.teb_laws.proofs.Answers.{Good}
-use Rattle.teb_laws.proofs.Holding.{Holds, count_abort, held_began, held_holds, holds_abort_other, holds_abort_self, holds_cases, holds_told, holds_told_self}
-use Rattle.teb_laws.proofs.Reachable.{empty_good, run_good, untold_gone}
-use Rattle.teb_laws.proofs.Sessions.{holds_one, session_range}
-use Rattle.teb_laws.proofs.Sound.{tree_facts}
+use Rattle.teb_rules.specs.laws.Lawful.{Lawful}
+use Rattle.teb_rules.specs.laws.Laws.{reached}
+use Rattle.teb_rules.proofs.lemmas.laws.Answers.{Good}
+use Rattle.teb_rules.proofs.lemmas.laws.Holding.{Holds, count_abort, held_began, held_holds, holds_abort_other, holds_abort_self, holds_cases, holds_told, holds_told_self}
+use Rattle.teb_rules.proofs.lemmas.laws.Reachable.{empty_good, run_good, untold_gone}
+use Rattle.teb_rules.proofs.lemmas.laws.Sessions.{holds_one, session_range}
+use Rattle.teb_rules.proofs.lemmas.laws.Sound.{tree_facts}
 use Rattle.shell_runner.specs.Holders.{IsReleased}
 
 -- tests that agree find the same number

@@ -1,8 +1,8 @@
 -- What is unchanged in a store that was asked, and in one whose next epoch has begun.
 use Rattle.std.proofs.Common.{◌≡◌, ℕ, List, Ok, length, refl, sym, ap, ◌∙◌, subst}
-use Rattle.teb_names.specs.declared.Session.{Session}
-use Rattle.teb_names.specs.declared.Request.{Request}
-use Rattle.teb_names.specs.declared.naming.NameBook.{NameBook}
+use Rattle.teb_rules.specs.declared.names.Session.{Session}
+use Rattle.teb_rules.specs.declared.names.Request.{Request}
+use Rattle.teb_rules.specs.declared.names.naming.NameBook.{NameBook}
 use Rattle.teb_rules.specs.Setup.{Setup, Store}
 use Rattle.store_setup.specs.SetupView.{SetupView}
 use Rattle.store_setup.specs.Sound.{IsNamed}

@@ -2,8 +2,8 @@
 use Rattle.std.proofs.Common.{◌≡◌, ℕ, ◌<◌, ◌≤◌, Bool, true, false, ℤ, List, length, Result, Ok, Err, ap, ◌∙◌, sym, refl, subst}
 use Rattle.std.specs.Prelude.{IfOk, nat_le, if◌then◌else◌}
 use Rattle.std.proofs.lemmas.Bool.{le-leb, lt-leb}
-use Rattle.teb_names.specs.declared.Cell.{Cell}
-use Rattle.teb_names.specs.declared.rows.TheConstants.{MOST_ROWS}
+use Rattle.teb_rules.specs.declared.names.Cell.{Cell}
+use Rattle.teb_rules.specs.declared.names.rows.TheConstants.{MOST_ROWS}
 use Rattle.shell_lines.specs.Answers.{unable_text}
 use Rattle.shell_lines.specs.declared.line.Unable.TheVariants as unable
 use Rattle.tree_writer.specs.Written.{tree_text}

@@ -1,12 +1,12 @@
 -- The outcome of a request, and of the epoch before it.
 use Rattle.std.proofs.Common.{◌≡◌, ℕ, List, Result, Ok, Err, inl, inr, ap, ◌∙◌}
 use Rattle.std.specs.Prelude.{◌⊎◌, IfOk}
-use Rattle.teb_names.specs.declared.Session.{Session}
-use Rattle.teb_names.specs.declared.Request.{Request}
-use Rattle.teb_names.specs.declared.naming.NameBook.{NameBook}
+use Rattle.teb_rules.specs.declared.names.Session.{Session}
+use Rattle.teb_rules.specs.declared.names.Request.{Request}
+use Rattle.teb_rules.specs.declared.names.naming.NameBook.{NameBook}
 use Rattle.shell_lines.specs.Answers.{reply_line}
 use Rattle.shell_lines.specs.declared.reply.StoreReply.TheVariants.{Later}
-use Rattle.teb_history.specs.declared.Event.{Event}
+use Rattle.teb_rules.specs.declared.history.Event.{Event}
 use Rattle.shell_runner.specs.States.{IsDrained, IsHindered, IsTurnRefused}
 use Rattle.shell_runner.specs.declared.store.TurnError.{TurnError}
 use Rattle.shell_runner.specs.declared.store.TurnError.TheVariants as turn

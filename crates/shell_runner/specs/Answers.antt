@@ -1,10 +1,10 @@
 -- How a line is answered.
 use Rattle.std.specs.Prelude.{◌≡◌, ◌⊎◌, ℕ, ◌+◌, ◌-◌, ◌^◌, ◌<◌, ◌≤◌, ℤ, codes, min, nat_le, if◌then◌else◌, List, [], length, map, Option, Some, None, IsTrue}
-use Rattle.teb_names.specs.declared.Cell.{Cell}
-use Rattle.teb_names.specs.declared.Session.{Session}
-use Rattle.teb_names.specs.declared.Request.{Request}
-use Rattle.teb_names.specs.declared.Request.TheVariants.{Begin}
-use Rattle.teb_names.specs.declared.Txn.{Txn}
+use Rattle.teb_rules.specs.declared.names.Cell.{Cell}
+use Rattle.teb_rules.specs.declared.names.Session.{Session}
+use Rattle.teb_rules.specs.declared.names.Request.{Request}
+use Rattle.teb_rules.specs.declared.names.Request.TheVariants.{Begin}
+use Rattle.teb_rules.specs.declared.names.Txn.{Txn}
 use Rattle.teb_rules.specs.Ranks.{serial_order}
 use Rattle.shell_lines.specs.Answers.{bad_text, checkpoint_text, epoch_text, help_text, names_text, order_text, reply_line, shown_rows, unable_text}
 use Rattle.shell_lines.specs.Sessions.{noted, sessions_text}
@@ -14,7 +14,7 @@ use Rattle.shell_lines.specs.declared.line.Unable.TheVariants as unable
 use Rattle.tree_report.specs.Drawing.{drawing}
 use Rattle.tree_report.specs.Guarantees.{AreGuarantees}
 use Rattle.tree_writer.specs.Written.{tree_text}
-use Rattle.teb_names.specs.declared.rows.TheConstants.{MOST_ROWS}
+use Rattle.teb_rules.specs.declared.names.rows.TheConstants.{MOST_ROWS}
 use Rattle.shell_lines.specs.declared.line.Checkpoint.{Checkpoint}
 use Rattle.shell_lines.specs.declared.line.Checkpoint.TheVariants as checkpoint
 use Rattle.shell_lines.specs.declared.line.RowRange.{RowRange}
@@ -24,8 +24,8 @@ use Rattle.shell_lines.specs.declared.reply.StoreReply.{StoreReply}
 use Rattle.shell_lines.specs.declared.reply.StoreReply.TheVariants as reply
 use Rattle.shell_runner.specs.States.{Stored, AreFinalRows, IsDrained, IsHindered, IsReplied, IsUntold}
 use Rattle.shell_runner.specs.declared.requests.TheConstants.{LEAST_LEFT}
-use Rattle.teb_names.specs.declared.TheConstants.{MOST_TXNS}
-use Rattle.teb_history.specs.Phases.{begun_count, held, unfinished}
+use Rattle.teb_rules.specs.declared.names.TheConstants.{MOST_TXNS}
+use Rattle.teb_rules.specs.history.Phases.{begun_count, held, unfinished}
 use Rattle.shell_runner.specs.declared.step.After.{After}
 use Rattle.shell_runner.specs.declared.step.After.TheVariants.{Next, Bad, Quit, Stopped}
 

@@ -3,10 +3,10 @@ use Rattle.std.specs.Prelude.{◌≡◌, ◌≢◌, ◌⊎◌, ℕ, ◌+◌, ◌
 use Rattle.std.specs.List.{list_any}
 use Rattle.std.specs.Io.KnownBytes.{Appends, Consumes, IsAtEnd, Keeps, prepend_known}
 use Rattle.teb_io.specs.Bytes.{AppendsFront}
-use Rattle.teb_names.specs.declared.Session.{Session}
-use Rattle.teb_names.specs.declared.naming.NameBook.{NameBook}
-use Rattle.teb_names.specs.declared.Request.TheVariants as request
-use Rattle.teb_history.specs.Phases.{held}
+use Rattle.teb_rules.specs.declared.names.Session.{Session}
+use Rattle.teb_rules.specs.declared.names.naming.NameBook.{NameBook}
+use Rattle.teb_rules.specs.declared.names.Request.TheVariants as request
+use Rattle.teb_rules.specs.history.Phases.{held}
 use Rattle.line_reader.specs.Lines.{IsTooLong, TakesLine}
 use Rattle.line_reader.specs.declared.TheConstants.{MOST_LINE_BYTES}
 use Rattle.shell_lines.specs.Lines.{shell_line}

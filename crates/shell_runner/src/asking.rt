@@ -16,7 +16,7 @@ use line_reader::LineReader;
 use shell_lines::{ShellLine, Unable, parse_line};
 use std::alloc::{AllocError, Global};
 use teb_io::{ReadError, Source};
-use teb_names::NameBook;
+use teb_rules::names::NameBook;
 
 /// What a line asks, and why the file that it names was not read, if so.
 #[derive(Clone, Copy)]

@@ -2,8 +2,8 @@
 
 ghost use Rattle.std.specs.Prelude.{◌≡◌, ◌≢◌, ◌≤◌, ◌⊎◌, Err, IfErr, IfOk, IsTrue, List, MatchResult, Ok, Option, is_some, ℕ};
 ghost use Rattle.teb_io.specs.Faults.{Rose};
-ghost use Rattle.teb_names.specs.declared.Request.TheVariants as requests;
-ghost use Rattle.teb_history.specs.Phases.{held};
+ghost use Rattle.teb_rules.specs.declared.names.Request.TheVariants as requests;
+ghost use Rattle.teb_rules.specs.history.Phases.{held};
 ghost use Rattle.shell_lines.specs.declared.line.ShellLine.TheVariants as lines;
 ghost use Rattle.shell_runner.specs.States.{IsReached, IsReady};
 ghost use Rattle.shell_runner.specs.Holders.{IsReleased};
@@ -20,7 +20,7 @@ use crate::writing::write_step;
 use crate::{Shell, ShellStore};
 use std::alloc::Global;
 use teb_io::Sink;
-use teb_names::{Request, SESSIONS, Session};
+use teb_rules::names::{Request, SESSIONS, Session};
 
 /// Ends each session that holds a transaction, in ascending number, and writes the answers.
 pub(crate) fn end_sessions<T: ShellStore, K: Sink>(

@@ -8,7 +8,7 @@ use crate::host::{FileError, Host};
 use line_reader::LineReader;
 use shell_lines::{ShellLine, Unable, put_prompt, second_word};
 use std::alloc::{AllocError, Global};
-use teb_history::History;
+use teb_rules::history::History;
 
 /// If a line reads a file, puts the lines of the file before those that are not yet taken. Returns why it can't. A file that is read has no line that reads a
 /// file.

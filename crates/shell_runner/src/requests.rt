@@ -17,7 +17,7 @@ use crate::{Shell, ShellStore, TurnError};
 use shell_lines::{Checkpoint, StoreReply, put_checkpoint, put_reply};
 use std::alloc::{AllocError, Global};
 use store_setup::Setup;
-use teb_names::{MOST_TXNS, NameBook, Request, Session};
+use teb_rules::names::{MOST_TXNS, NameBook, Request, Session};
 use tree_toml::read_tree;
 
 /// An epoch with commits ends if fewer bytes are left for it.

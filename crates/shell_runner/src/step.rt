@@ -15,7 +15,7 @@ use shell_lines::{
     put_types, put_unable,
 };
 use std::alloc::{AllocError, Global};
-use teb_names::MOST_ROWS;
+use teb_rules::names::MOST_ROWS;
 use tree_report::{put_guarantees, put_tree};
 use tree_writer::put_tree_text;
 

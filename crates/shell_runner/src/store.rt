@@ -13,8 +13,8 @@ ghost use Rattle.shell_runner.specs.declared.store.TurnError.TheVariants as turn
 use shell_lines::StoreReply;
 use std::alloc::{AllocError, Global};
 use store_setup::Setup;
-use teb_history::History;
-use teb_names::{Cell, NameBook, Request, Session, Txn};
+use teb_rules::history::History;
+use teb_rules::names::{Cell, NameBook, Request, Session, Txn};
 
 /// Why an epoch is not followed by the next.
 #[derive(Clone, Copy)]

@@ -1,9 +1,9 @@
 -- The lines of a load are of sessions 1 to 8.
 use Rattle.std.proofs.Common.{ℕ, zero, suc, ◌+◌, ◌*◌, ◌%◌, ◌<◌, ◌≤◌, List, [], ◌∷◌, ◌++◌, arith}
 use Rattle.std.specs.List.{flat_map, range_with_len}
-use Rattle.teb_names.specs.declared.TheConstants.{SESSIONS}
-use Rattle.teb_names.specs.declared.Session.{Session}
-use Rattle.teb_names.specs.declared.Request.{Request}
+use Rattle.teb_rules.specs.declared.names.TheConstants.{SESSIONS}
+use Rattle.teb_rules.specs.declared.names.Session.{Session}
+use Rattle.teb_rules.specs.declared.names.Request.{Request}
 use Rattle.script_text.specs.Sessions.{AreOfSessions}
 use Rattle.shop_load.specs.Loads.{Asking, askings_at, asked_by, numbered, loaded_lines, requests_from, state}
 

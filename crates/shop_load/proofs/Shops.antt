@@ -4,19 +4,19 @@ use Rattle.std.specs.Prelude.{All}
 use Rattle.std.specs.List.{IsDistinct}
 use Rattle.std.proofs.lemmas.List.Elements.{All-nil, All-cons, All-append, All-map}
 use Rattle.std.proofs.lemmas.List.{length-map, get_or-map, map-append}
-use Rattle.teb_names.specs.Names.{is_name}
-use Rattle.teb_names.specs.declared.Cell.{Cell}
-use Rattle.teb_names.specs.declared.Kind.{Kind}
-use Rattle.teb_names.specs.Rows.{IsAscending}
-use Rattle.teb_history.specs.Phases.{numbers}
+use Rattle.teb_rules.specs.names.Names.{is_name}
+use Rattle.teb_rules.specs.declared.names.Cell.{Cell}
+use Rattle.teb_rules.specs.declared.names.Kind.{Kind}
+use Rattle.teb_rules.specs.names.Rows.{IsAscending}
+use Rattle.teb_rules.specs.history.Phases.{numbers}
 use Rattle.teb_rules.specs.Setup.{NodeRow}
 use Rattle.teb_rules.specs.Tree.{no_row, below, climb, way}
 use Rattle.teb_rules.specs.Accepted.{IsSound, tree_fault, homes}
-use Rattle.cc_tree.specs.Answers.{Answers}
-use Rattle.cc_tree.specs.Grown.{Grown, row_of, rows_of}
-use Rattle.cc_tree.specs.declared.fault.TreeError.{TreeError}
-use Rattle.cc_tree.specs.declared.fault.TreeError.TheVariants.{Shape, Misplaced, OutOfMemory}
-use Rattle.cc_tree.specs.declared.rows.NodeRow.{NodeRow as Row}
+use Rattle.store_setup.specs.tree.Answers.{Answers}
+use Rattle.store_setup.specs.tree.Grown.{Grown, row_of, rows_of}
+use Rattle.store_setup.specs.declared.tree.fault.TreeError.{TreeError}
+use Rattle.store_setup.specs.declared.tree.fault.TreeError.TheVariants.{Shape, Misplaced, OutOfMemory}
+use Rattle.store_setup.specs.declared.tree.rows.NodeRow.{NodeRow as Row}
 use Rattle.store_setup.specs.Sound.{IsWhole, IsNamed, HasNames, rules_of}
 use Rattle.shop_load.specs.Shop.{shop, shop_nodes, shop_rows, shop_profiles, filled}
 

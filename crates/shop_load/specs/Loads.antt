@@ -1,10 +1,10 @@
 -- The generated load: transactions of the shop, drawn from a number.
 use Rattle.std.specs.Prelude.{ℕ, zero, suc, ◌==◌, if◌then◌else◌, ◌+◌, ◌*◌, ◌/◌, ◌%◌, ◌^◌, List, [], ◌∷◌, map, pos, negsuc}
 use Rattle.std.specs.List.{flat_map, range_with_len}
-use Rattle.teb_names.specs.declared.Session.{Session}
-use Rattle.teb_names.specs.declared.Cell.{Cell}
-use Rattle.teb_names.specs.declared.Request.{Request}
-use Rattle.teb_names.specs.declared.Request.TheVariants.{Begin, Read, Write, Add, Commit}
+use Rattle.teb_rules.specs.declared.names.Session.{Session}
+use Rattle.teb_rules.specs.declared.names.Cell.{Cell}
+use Rattle.teb_rules.specs.declared.names.Request.{Request}
+use Rattle.teb_rules.specs.declared.names.Request.TheVariants.{Begin, Read, Write, Add, Commit}
 use Rattle.script_text.specs.declared.Line.{Line}
 
 -- a draw moves the state on, and answers its upper bits

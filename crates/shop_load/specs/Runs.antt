@@ -1,7 +1,7 @@
 -- What a generated load shows.
 use Rattle.std.specs.Prelude.{ℕ}
 use Rattle.command_output.specs.Shown.{Shown}
-use Rattle.input_runner.specs.Runs.{AreTurns, IsRun}
+use Rattle.script_runner.specs.Runs.{AreTurns, IsRun}
 use Rattle.shop_load.specs.Shop.{shop}
 use Rattle.shop_load.specs.Loads.{loaded_lines}
 use Rattle.shop_load.specs.Summaries.{IsSummary}

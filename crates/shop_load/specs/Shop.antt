@@ -1,9 +1,9 @@
 -- The shop, on whose store the generated load runs.
 use Rattle.std.specs.Prelude.{ℕ, ℤ, pos, false, List, [], ◌∷◌, ◌++◌, map, codes, Option, Some, None}
-use Rattle.teb_names.specs.declared.Cell.{Cell}
-use Rattle.teb_names.specs.declared.ControlKind.{ControlKind}
-use Rattle.teb_names.specs.declared.ControlKind.TheVariants.{Locks, Pipeline, Snapshot}
-use Rattle.teb_history.specs.Phases.{numbers}
+use Rattle.teb_rules.specs.declared.names.Cell.{Cell}
+use Rattle.teb_rules.specs.declared.names.ControlKind.{ControlKind}
+use Rattle.teb_rules.specs.declared.names.ControlKind.TheVariants.{Locks, Pipeline, Snapshot}
+use Rattle.teb_rules.specs.history.Phases.{numbers}
 use Rattle.teb_rules.specs.Setup.{NodeRow}
 use Rattle.store_setup.specs.SetupView.{SetupView}
 

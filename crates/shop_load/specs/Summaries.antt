@@ -1,9 +1,9 @@
 -- The summary of a generated load.
 use Rattle.std.specs.Prelude.{◌≡◌, ℕ, Bool, cond, eqb, ◌++◌, List, [], ◌∷◌, length, filter, codes, decimal, ℤ, pos, ◌+ℤ◌}
 use Rattle.std.specs.Fmt.{signed_decimal}
-use Rattle.teb_names.specs.declared.Cell.{Cell}
-use Rattle.teb_history.specs.declared.Event.{Event}
-use Rattle.teb_history.specs.Phases.{txns, committed, aborted}
+use Rattle.teb_rules.specs.declared.names.Cell.{Cell}
+use Rattle.teb_rules.specs.declared.history.Event.{Event}
+use Rattle.teb_rules.specs.history.Phases.{txns, committed, aborted}
 use Rattle.teb_rules.specs.Setup.{Store}
 use Rattle.serial_order.specs.Tables.{IsFinalRows}
 use Rattle.script_text.specs.declared.Answered.{Answered}

@@ -6,7 +6,7 @@ ghost use Rattle.shop_load.specs.Loads.{next_state, begin, report, new_order, pa
 use crate::shop::{ACCOUNTS, KEYS, ORDERS, STOCK};
 use script_text::Line;
 use std::alloc::{AllocError, Global};
-use teb_names::{Cell, Kind, Request, Session, Spot, Table};
+use teb_rules::names::{Cell, Kind, Request, Session, Spot, Table};
 
 const REPORT: Kind = Kind(0);
 

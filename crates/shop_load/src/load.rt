@@ -1,7 +1,7 @@
 //! The command `load`: a generated input, run in turns over the shop.
 
 ghost use Rattle.std.specs.Prelude.{◌≡◌, ◌<◌, ◌≤◌, ◌^◌, IfOk};
-ghost use Rattle.input_runner.specs.Runs.{IsSerialized};
+ghost use Rattle.script_runner.specs.Runs.{IsSerialized};
 ghost use Rattle.shop_load.specs.Loads.{loaded_lines};
 ghost use Rattle.shop_load.specs.Runs.{IsLoad};
 ghost use Rattle.shop_load.specs.Shop.{shop as spec_shop};
@@ -12,7 +12,7 @@ use crate::summary::summary_of;
 use answer_log::AnswerCount;
 use command_output::Output;
 use input_reader::Input;
-use input_runner::{in_turns, output_of};
+use script_runner::{in_turns, output_of};
 use std::alloc::{AllocError, Global};
 
 /// Runs `size` transactions that are generated from a seed, and returns the summary.

@@ -1,16 +1,16 @@
 //! The shop, over whose store the generated load runs.
 
 ghost use Rattle.std.specs.Prelude.{◌≡◌, ◌++◌, ◌∷◌, [], IfOk, OnOk};
-ghost use Rattle.cc_tree.specs.Grown.{row_of, rows_of, parent_number, kind_numbers};
+ghost use Rattle.store_setup.specs.tree.Grown.{row_of, rows_of, parent_number, kind_numbers};
 ghost use Rattle.store_setup.specs.SetupView.{setup_view};
 ghost use Rattle.store_setup.specs.Sound.{IsWhole, IsNamed, HasNames};
 ghost use Rattle.shop_load.specs.Shop.{shop as spec_shop, node as spec_node, filled};
 
-use cc_tree::{NodeRow, Tree, TreeError};
 use std::alloc::{AllocError, Global};
 use store_setup::Setup;
-use teb_names::{Cell, ControlKind, Kind, NameBook, Names, Node, Rows, Table};
-use txn_profile::Profile;
+use store_setup::profile::Profile;
+use store_setup::tree::{NodeRow, Tree, TreeError};
+use teb_rules::names::{Cell, ControlKind, Kind, NameBook, Names, Node, Rows, Table};
 
 /// The pieces in stock, by key.
 pub(crate) const STOCK: Table = Table(0);

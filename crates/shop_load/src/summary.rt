@@ -3,7 +3,7 @@
 ghost use Rattle.std.specs.Prelude.{◌≡◌, ◌++◌, ◌∷◌, [], codes, decimal, IfOk, length, List, OnOk};
 ghost use Rattle.script_text.specs.declared.Answered.{Answered};
 ghost use Rattle.script_text.specs.Texts.{line_text};
-ghost use Rattle.teb_history.specs.Phases.{committed as is_committed, aborted as is_aborted};
+ghost use Rattle.teb_rules.specs.history.Phases.{committed as is_committed, aborted as is_aborted};
 ghost use Rattle.shop_load.specs.Summaries.{IsSummary, count_of, count_line, added, sum_in, sum_line};
 
 use crate::shop::{ACCOUNTS, ORDERS, STOCK};
@@ -11,8 +11,8 @@ use engine_core::Engine;
 use itoa::Buffer;
 use serial_order::tables;
 use std::alloc::{AllocError, Global};
-use teb_history::History;
-use teb_names::{Cell, Table, Txn};
+use teb_rules::history::History;
+use teb_rules::names::{Cell, Table, Txn};
 use version_chain::Chains;
 
 /// Returns what was asked for, the counts of transactions and requests, and the sums of the final tables. It costs one pass over

@@ -17,7 +17,7 @@
 ghost use Rattle.std.specs.Prelude.{◌≡◌, MatchOption};
 ghost use Rattle.short_reply.specs.ShortReplies.{full_reply, HasValues};
 
-use teb_names::{Cause, Node, Refusal, Reply, Txn};
+use teb_rules::names::{Cause, Node, Refusal, Reply, Txn};
 
 /// A reply without the values of a scan. A `Reply` has room for sixteen values; this one has not, so moving it costs little.
 #[derive(Clone, Copy, Debug, PartialEq, Eq)]

@@ -2,16 +2,16 @@
 use Rattle.std.proofs.Common.{◌≡◌, ℕ, ℤ, Bool, true, false, cond, ◌||◌, List, [], ◌∷◌, is_some, Option, Some, None, refl, sym, ◌∙◌, subst}
 use Rattle.std.specs.Borrow.{Bor}
 use Rattle.std.specs.List.{list_any}
-use Rattle.teb_names.specs.declared.Cell.{Cell}
-use Rattle.teb_names.specs.declared.Txn.{Txn}
-use Rattle.teb_names.specs.Cells.{same_cell}
-use Rattle.teb_history.specs.declared.Event.{Event}
-use Rattle.teb_history.specs.declared.Event.TheVariants.{Got, Put}
-use Rattle.teb_history.specs.Accesses.{wrote, got}
-use Rattle.teb_history.specs.Ascending.{IsAscendingBy}
-use Rattle.teb_history.specs.Live.{number_of}
-use Rattle.teb_history.specs.OwnEvents.{own_events, put_in, got_in}
-use Rattle.teb_history.proofs.OwnWalks.{wrote_own, got_own}
+use Rattle.teb_rules.specs.declared.names.Cell.{Cell}
+use Rattle.teb_rules.specs.declared.names.Txn.{Txn}
+use Rattle.teb_rules.specs.names.Cells.{same_cell}
+use Rattle.teb_rules.specs.declared.history.Event.{Event}
+use Rattle.teb_rules.specs.declared.history.Event.TheVariants.{Got, Put}
+use Rattle.teb_rules.specs.history.Accesses.{wrote, got}
+use Rattle.teb_rules.specs.history.Ascending.{IsAscendingBy}
+use Rattle.teb_rules.specs.history.Live.{number_of}
+use Rattle.teb_rules.specs.history.OwnEvents.{own_events, put_in, got_in}
+use Rattle.teb_rules.proofs.lemmas.history.OwnWalks.{wrote_own, got_own}
 use Rattle.teb_rules.specs.Setup.{Setup}
 use Rattle.phase_api.specs.FactsView.{setup_of, events_of}
 use Rattle.access_book.specs.declared.accesses.Access.{Access}

@@ -1,9 +1,9 @@
 -- Membership in ascending lists of transactions.
 use Rattle.std.proofs.Common.{◌≡◌, ℕ, ◌≤◌, Bool, true, false, cond, eqb, ◌||◌, List, [], ◌∷◌, filter, inl, inr, refl, sym, ◌∙◌, ap, arith}
 use Rattle.std.proofs.lemmas.Bool.{both_ways, cases_order, eqb-true, eq-eqb, ne_eqb, or_cases, or_left, or_right}
-use Rattle.teb_names.specs.declared.Txn.{Txn}
-use Rattle.teb_history.specs.Ascending.{AllAbove, IsAscendingBy}
-use Rattle.teb_history.specs.Live.{number_of}
+use Rattle.teb_rules.specs.declared.names.Txn.{Txn}
+use Rattle.teb_rules.specs.history.Ascending.{AllAbove, IsAscendingBy}
+use Rattle.teb_rules.specs.history.Live.{number_of}
 use Rattle.access_book.specs.Books.{is_among}
 
 -- transactions with equal numbers are equal

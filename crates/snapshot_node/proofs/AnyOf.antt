@@ -2,7 +2,7 @@
 use Rattle.std.proofs.Common.{◌≡◌, ℕ, Bool, true, false, ◌&&◌, ◌||◌, List, [], ◌∷◌, refl, sym, ap, ◌∙◌, inl, inr}
 use Rattle.std.specs.List.{list_any}
 use Rattle.std.proofs.lemmas.Bool.{or_cases, or_left}
-use Rattle.teb_names.proofs.Bools.{and_false}
+use Rattle.teb_rules.proofs.lemmas.names.Bools.{and_false}
 
 pub any_is : (p : ℕ → Bool) (us : List ℕ) → list_any p us ≡ true → (u : ℕ) × (p u ≡ true)
 any_is p [] h = absurd (cc)

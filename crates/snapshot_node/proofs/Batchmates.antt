@@ -2,13 +2,13 @@
 use Rattle.std.specs.Prelude.{IsTrue}
 use Rattle.std.proofs.Common.{◌≡◌, ℕ, Bool, ◌+◌, ◌<◌, ◌≤◌, true, false, ◌⊎◌, List, Option, Some, None, sym, ◌∙◌, subst, inl, inr, arith, eqb, ◌-◌, eqb-true, eq-eqb}
 use Rattle.std.proofs.lemmas.Bool.{cases_lt, both_ways, and_parts, and_from}
-use Rattle.teb_names.specs.declared.Txn.{Txn}
-use Rattle.teb_history.specs.declared.Event.{Event}
-use Rattle.teb_history.specs.declared.Event.TheVariants.{Got}
-use Rattle.teb_history.specs.Accesses.{is_got, got, wrote, got_at}
-use Rattle.teb_history.specs.Phases.{begun, begun_count}
-use Rattle.teb_history.proofs.Any.{came_any}
-use Rattle.teb_history.specs.OwnEvents.{is_of}
+use Rattle.teb_rules.specs.declared.names.Txn.{Txn}
+use Rattle.teb_rules.specs.declared.history.Event.{Event}
+use Rattle.teb_rules.specs.declared.history.Event.TheVariants.{Got}
+use Rattle.teb_rules.specs.history.Accesses.{is_got, got, wrote, got_at}
+use Rattle.teb_rules.specs.history.Phases.{begun, begun_count}
+use Rattle.teb_rules.proofs.lemmas.history.Any.{came_any}
+use Rattle.teb_rules.specs.history.OwnEvents.{is_of}
 use Rattle.version_chain.proofs.Cells.{same_cell-itself}
 use Rattle.batch_book.specs.Fields.{Has}
 use Rattle.batch_book.proofs.Elements.{any_Has, Has-any}
@@ -16,10 +16,10 @@ use Rattle.teb_rules.specs.Setup.{Setup}
 use Rattle.teb_rules.specs.Tree.{on, side}
 use Rattle.teb_rules.specs.Batches.{start, one_batch}
 use Rattle.teb_rules.specs.Controls.{edge}
-use Rattle.teb_laws.specs.Lawful.{Lawful}
-use Rattle.teb_laws.proofs.Intervals.{interval}
-use Rattle.teb_laws.proofs.Nodes.{meets_parts}
-use Rattle.teb_laws.proofs.Pivots.{edge_parts}
+use Rattle.teb_rules.specs.laws.Lawful.{Lawful}
+use Rattle.teb_rules.proofs.lemmas.laws.Intervals.{interval}
+use Rattle.teb_rules.proofs.lemmas.laws.Nodes.{meets_parts}
+use Rattle.teb_rules.proofs.lemmas.laws.Pivots.{edge_parts}
 use Rattle.phase_api.specs.declared.facts.Facts.{Facts}
 use Rattle.phase_api.specs.FactsView.{IsOrderly, setup_of, events_of}
 use Rattle.phase_api.specs.Calls.{IsHere}

@@ -1,16 +1,16 @@
 -- In the empty history no transaction has put or read anything.
 use Rattle.std.proofs.Common.{◌≡◌, ℕ, false, not, ◌&&◌, List, [], sym, ◌∙◌, ap, subst}
 use Rattle.std.proofs.lemmas.Bool.{and_right}
-use Rattle.teb_names.specs.declared.Cell.{Cell}
-use Rattle.teb_history.specs.declared.Event.{Event}
-use Rattle.teb_history.specs.Phases.{aborted, committed}
-use Rattle.teb_history.specs.Accesses.{is_put, is_got, put_at, got_at, wrote, got}
-use Rattle.teb_history.specs.Ascending.{IsAscendingBy}
-use Rattle.teb_history.specs.Live.{number_of}
-use Rattle.teb_history.proofs.Any.{came_any}
+use Rattle.teb_rules.specs.declared.names.Cell.{Cell}
+use Rattle.teb_rules.specs.declared.history.Event.{Event}
+use Rattle.teb_rules.specs.history.Phases.{aborted, committed}
+use Rattle.teb_rules.specs.history.Accesses.{is_put, is_got, put_at, got_at, wrote, got}
+use Rattle.teb_rules.specs.history.Ascending.{IsAscendingBy}
+use Rattle.teb_rules.specs.history.Live.{number_of}
+use Rattle.teb_rules.proofs.lemmas.history.Any.{came_any}
 use Rattle.teb_rules.specs.Setup.{Setup}
 use Rattle.teb_rules.specs.Tree.{row, on}
-use Rattle.teb_names.specs.declared.ControlKind.TheVariants.{Snapshot}
+use Rattle.teb_rules.specs.declared.names.ControlKind.TheVariants.{Snapshot}
 use Rattle.batch_book.specs.Book.{Book}
 use Rattle.batch_book.specs.Histories.{BatchesOf}
 use Rattle.access_conflicts.proofs.Orderly.{orderly_none}

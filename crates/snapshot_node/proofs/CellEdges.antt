@@ -2,22 +2,22 @@
 use Rattle.std.proofs.Common.{◌≡◌, ℕ, Bool, true, false, not, ◌&&◌, List, inl, inr, is_some, sym, ◌∙◌, ap}
 use Rattle.std.specs.List.{list_any}
 use Rattle.std.proofs.lemmas.Bool.{and_parts, and_from, cases_Bool, not_from_false, or_left, or_right}
-use Rattle.teb_names.specs.declared.Cell.{Cell}
-use Rattle.teb_names.specs.declared.ControlKind.TheVariants.{Snapshot}
-use Rattle.teb_names.specs.Cells.{same_cell}
-use Rattle.teb_history.specs.declared.Event.{Event}
-use Rattle.teb_history.specs.declared.Event.TheVariants.{Got}
-use Rattle.teb_history.specs.Phases.{committed, unfinished, aborted}
-use Rattle.teb_history.specs.Accesses.{wrote, got}
-use Rattle.teb_history.specs.OwnEvents.{own_events, got_in}
-use Rattle.teb_history.proofs.OwnWalks.{got_own}
+use Rattle.teb_rules.specs.declared.names.Cell.{Cell}
+use Rattle.teb_rules.specs.declared.names.ControlKind.TheVariants.{Snapshot}
+use Rattle.teb_rules.specs.names.Cells.{same_cell}
+use Rattle.teb_rules.specs.declared.history.Event.{Event}
+use Rattle.teb_rules.specs.declared.history.Event.TheVariants.{Got}
+use Rattle.teb_rules.specs.history.Phases.{committed, unfinished, aborted}
+use Rattle.teb_rules.specs.history.Accesses.{wrote, got}
+use Rattle.teb_rules.specs.history.OwnEvents.{own_events, got_in}
+use Rattle.teb_rules.proofs.lemmas.history.OwnWalks.{got_own}
 use Rattle.teb_rules.specs.Setup.{Setup}
 use Rattle.teb_rules.specs.Tree.{row, on, meets}
 use Rattle.teb_rules.specs.Batches.{concurrent}
 use Rattle.teb_rules.specs.Controls.{edge}
-use Rattle.teb_laws.specs.Lawful.{Lawful}
-use Rattle.teb_laws.specs.TreeFacts.{TreeFacts}
-use Rattle.teb_laws.proofs.Nodes.{meets_parts}
+use Rattle.teb_rules.specs.laws.Lawful.{Lawful}
+use Rattle.teb_rules.specs.laws.TreeFacts.{TreeFacts}
+use Rattle.teb_rules.proofs.lemmas.laws.Nodes.{meets_parts}
 use Rattle.phase_api.specs.FactsView.{IsOrderly}
 use Rattle.batch_book.specs.Fields.{Has}
 use Rattle.batch_book.proofs.Elements.{any_Has, Has-any}

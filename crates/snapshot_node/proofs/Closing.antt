@@ -1,10 +1,10 @@
 -- The close of a batch, as a book of batches gives it.
 use Rattle.std.proofs.Common.{◌≡◌, ℕ, ◌≤◌, Bool, true, false, List, length, cond, Option, Some, None, unwrap_or, ltb, refl, ap, ◌∙◌, inl, inr, arith, lt-ltb}
 use Rattle.std.proofs.lemmas.Bool.{cases_lt, both_ways}
-use Rattle.teb_history.specs.declared.Event.{Event}
+use Rattle.teb_rules.specs.declared.history.Event.{Event}
 use Rattle.teb_rules.specs.Setup.{Setup}
 use Rattle.teb_rules.specs.Batches.{close}
-use Rattle.teb_laws.proofs.Positions.{first-le}
+use Rattle.teb_rules.proofs.lemmas.laws.Positions.{first-le}
 use Rattle.batch_book.specs.Histories.{closing}
 
 pub close_told : (S : Setup) (H : List Event) (n t : ℕ) (o : Option ℕ) → o ≡ closing S H n t → unwrap_or o (length H) ≡ close S H n t

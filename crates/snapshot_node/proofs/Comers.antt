@@ -2,16 +2,16 @@
 use Rattle.std.specs.Prelude.{IsTrue}
 use Rattle.std.proofs.Common.{◌≡◌, ℕ, true, false, eqb, List, ◌∷◌, ◌⊎◌, inl, inr, Option, Some, None, ◌≤◌, le_refl, refl, sym, subst, eqb-true, eq-eqb}
 use Rattle.std.proofs.lemmas.Bool.{and_parts, or_left}
-use Rattle.teb_names.specs.declared.Txn.{Txn}
-use Rattle.teb_names.specs.declared.ControlKind.TheVariants.{Snapshot}
-use Rattle.teb_history.specs.declared.Event.{Event}
-use Rattle.teb_history.specs.Phases.{begun, prepared, committed, aborted}
+use Rattle.teb_rules.specs.declared.names.Txn.{Txn}
+use Rattle.teb_rules.specs.declared.names.ControlKind.TheVariants.{Snapshot}
+use Rattle.teb_rules.specs.declared.history.Event.{Event}
+use Rattle.teb_rules.specs.history.Phases.{begun, prepared, committed, aborted}
 use Rattle.teb_rules.specs.Setup.{Setup}
 use Rattle.teb_rules.specs.Tree.{row, meets}
 use Rattle.teb_rules.specs.Batches.{concurrent, one_batch}
-use Rattle.teb_laws.specs.Lawful.{Lawful}
-use Rattle.teb_laws.specs.TreeFacts.{TreeFacts}
-use Rattle.teb_laws.proofs.Nodes.{meets_parts}
+use Rattle.teb_rules.specs.laws.Lawful.{Lawful}
+use Rattle.teb_rules.specs.laws.TreeFacts.{TreeFacts}
+use Rattle.teb_rules.proofs.lemmas.laws.Nodes.{meets_parts}
 use Rattle.phase_api.specs.FactsView.{IsOrderly}
 use Rattle.batch_book.specs.Fields.{Has}
 use Rattle.batch_book.proofs.Elements.{any_Has, Has-any}

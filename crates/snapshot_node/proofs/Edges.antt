@@ -2,32 +2,32 @@
 use Rattle.std.proofs.Common.{◌≡◌, ℕ, ◌<◌, ◌≤◌, Bool, true, false, not, ◌&&◌, ◌||◌, eqb, ltb, List, [], ◌∷◌, filter, cond, Option, Some, None, refl, sym, ◌∙◌, ap, subst, inl, inr, arith, ℤ, length, lt-ltb, le-ltb, le_refl, eqb-true, eq-eqb, ltb-true}
 use Rattle.std.specs.List.{list_any}
 use Rattle.std.proofs.lemmas.Bool.{cases_lt, cases_eq, cases_Bool, both_ways, ne_eqb, and_parts, and_from, or_cases, or_left, or_right, false_from_ne_true, ltb-false}
-use Rattle.teb_names.specs.declared.Txn.{Txn}
-use Rattle.teb_names.specs.declared.Cell.{Cell}
-use Rattle.teb_names.specs.declared.ControlKind.TheVariants.{Snapshot}
-use Rattle.teb_names.proofs.Bools.{and_false}
-use Rattle.teb_history.specs.declared.Event.{Event}
-use Rattle.teb_history.specs.declared.Event.TheVariants.{Began, Got, Put, Ready, Done, Gone, Told}
-use Rattle.teb_history.specs.Accesses.{wrote, put_at}
-use Rattle.teb_history.specs.OwnEvents.{is_of, own_events}
-use Rattle.teb_history.specs.Phases.{began_at, gone_at, begun, aborted, committed, prepared, unfinished, ready_at}
-use Rattle.teb_history.specs.Positions.{upto, came}
+use Rattle.teb_rules.specs.declared.names.Txn.{Txn}
+use Rattle.teb_rules.specs.declared.names.Cell.{Cell}
+use Rattle.teb_rules.specs.declared.names.ControlKind.TheVariants.{Snapshot}
+use Rattle.teb_rules.proofs.lemmas.names.Bools.{and_false}
+use Rattle.teb_rules.specs.declared.history.Event.{Event}
+use Rattle.teb_rules.specs.declared.history.Event.TheVariants.{Began, Got, Put, Ready, Done, Gone, Told}
+use Rattle.teb_rules.specs.history.Accesses.{wrote, put_at}
+use Rattle.teb_rules.specs.history.OwnEvents.{is_of, own_events}
+use Rattle.teb_rules.specs.history.Phases.{began_at, gone_at, begun, aborted, committed, prepared, unfinished, ready_at}
+use Rattle.teb_rules.specs.history.Positions.{upto, came}
 use Rattle.teb_rules.specs.Setup.{Setup}
 use Rattle.teb_rules.specs.Tree.{row, on, side, meets}
 use Rattle.teb_rules.specs.Batches.{start, close, concurrent, one_batch}
 use Rattle.teb_rules.specs.Versions.{precedes}
 use Rattle.teb_rules.specs.Controls.{reads_past, edge}
-use Rattle.teb_laws.specs.Lawful.{Lawful}
-use Rattle.teb_laws.specs.TreeFacts.{TreeFacts}
-use Rattle.teb_laws.proofs.Positions.{upto_all}
-use Rattle.teb_laws.proofs.ReadRule.{GotAt}
-use Rattle.teb_laws.proofs.Assembly.{suffix_next, suffix_got}
-use Rattle.teb_laws.proofs.Pivots.{past_at}
-use Rattle.teb_laws.proofs.Intervals.{start_not_close, apart_or_same}
-use Rattle.teb_laws.proofs.Batches.{start_differs}
-use Rattle.teb_laws.proofs.Ranks.{commits}
-use Rattle.teb_laws.proofs.Serial.{commits_from}
-use Rattle.teb_laws.proofs.Nodes.{meets_parts, meets_from, meets_sym}
+use Rattle.teb_rules.specs.laws.Lawful.{Lawful}
+use Rattle.teb_rules.specs.laws.TreeFacts.{TreeFacts}
+use Rattle.teb_rules.proofs.lemmas.laws.Positions.{upto_all}
+use Rattle.teb_rules.proofs.lemmas.laws.ReadRule.{GotAt}
+use Rattle.teb_rules.proofs.lemmas.laws.Assembly.{suffix_next, suffix_got}
+use Rattle.teb_rules.proofs.lemmas.laws.Pivots.{past_at}
+use Rattle.teb_rules.proofs.lemmas.laws.Intervals.{start_not_close, apart_or_same}
+use Rattle.teb_rules.proofs.lemmas.laws.Batches.{start_differs}
+use Rattle.teb_rules.proofs.lemmas.laws.Ranks.{commits}
+use Rattle.teb_rules.proofs.lemmas.laws.Serial.{commits_from}
+use Rattle.teb_rules.proofs.lemmas.laws.Nodes.{meets_parts, meets_from, meets_sym}
 use Rattle.batch_book.specs.Histories.{ClosedBelow}
 use Rattle.batch_book.proofs.Numbered.{unfinished_parts}
 use Rattle.snapshot_node.specs.Pivots.{is_at_stake, is_across}

@@ -2,9 +2,9 @@
 use Rattle.std.specs.Prelude.{IsTrue}
 use Rattle.std.proofs.Common.{◌≡◌, ℕ, zero, suc, ◌+◌, ◌<◌, ◌≤◌, Bool, true, false, cond, leb, le-leb, eqb, List, [], ◌∷◌, ◌⊎◌, inl, inr, length, filter, get_or, Some, refl, sym, subst, arith}
 use Rattle.std.proofs.lemmas.Bool.{cases_lt, both_ways, or_cases, or_left, or_right, eqb-true}
-use Rattle.teb_names.specs.declared.Txn.{Txn}
-use Rattle.teb_history.specs.Ascending.{AllAbove, IsAscendingBy}
-use Rattle.teb_history.specs.Live.{number_of}
+use Rattle.teb_rules.specs.declared.names.Txn.{Txn}
+use Rattle.teb_rules.specs.history.Ascending.{AllAbove, IsAscendingBy}
+use Rattle.teb_rules.specs.history.Live.{number_of}
 use Rattle.access_book.specs.Books.{is_among}
 use Rattle.snapshot_node.specs.Pivots.{IsLeast}
 use Rattle.snapshot_node.proofs.Among.{among_above}

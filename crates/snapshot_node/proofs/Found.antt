@@ -1,16 +1,16 @@
 -- The transaction that a write meets, found among the writers of the cell.
 use Rattle.std.proofs.Common.{◌≡◌, ℕ, Bool, true, false, not, ◌&&◌, ltb, List, find, refl, ◌∙◌}
 use Rattle.std.proofs.lemmas.Bool.{and_parts, and_from, or_left, or_right}
-use Rattle.teb_names.specs.declared.Cell.{Cell}
-use Rattle.teb_names.proofs.Bools.{and_true}
-use Rattle.teb_history.specs.declared.Event.{Event}
-use Rattle.teb_history.specs.Phases.{txns, committed, unfinished}
-use Rattle.teb_history.specs.Accesses.{wrote}
+use Rattle.teb_rules.specs.declared.names.Cell.{Cell}
+use Rattle.teb_rules.proofs.lemmas.names.Bools.{and_true}
+use Rattle.teb_rules.specs.declared.history.Event.{Event}
+use Rattle.teb_rules.specs.history.Phases.{txns, committed, unfinished}
+use Rattle.teb_rules.specs.history.Accesses.{wrote}
 use Rattle.teb_rules.specs.Setup.{Setup}
 use Rattle.teb_rules.specs.Tree.{meets}
 use Rattle.teb_rules.specs.Batches.{start, close}
 use Rattle.teb_rules.specs.Controls.{is_first}
-use Rattle.teb_laws.proofs.Nodes.{meets_parts}
+use Rattle.teb_rules.proofs.lemmas.laws.Nodes.{meets_parts}
 use Rattle.access_conflicts.specs.Waits.{some_txn}
 use Rattle.snapshot_node.specs.Asking.{comes_first, is_met}
 use Rattle.snapshot_node.specs.Standing.{has_put_in, writers_in}

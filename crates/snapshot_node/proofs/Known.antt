@@ -2,16 +2,16 @@
 use Rattle.std.specs.Prelude.{IsTrue}
 use Rattle.std.proofs.Common.{◌≡◌, ℕ, ◌<◌, ◌≤◌, Bool, false, cond, List, inl, inr, Option, Some, None, lt-ltb, le-ltb, le_refl, sym, subst, arith}
 use Rattle.std.proofs.lemmas.Bool.{cases_lt, cases_eq, cases_Bool, both_ways}
-use Rattle.teb_names.specs.declared.Cell.{Cell}
-use Rattle.teb_names.specs.declared.Txn.{Txn}
-use Rattle.teb_names.specs.declared.ControlKind.TheVariants.{Snapshot}
-use Rattle.teb_history.specs.declared.Event.{Event}
-use Rattle.teb_history.specs.Phases.{aborted}
+use Rattle.teb_rules.specs.declared.names.Cell.{Cell}
+use Rattle.teb_rules.specs.declared.names.Txn.{Txn}
+use Rattle.teb_rules.specs.declared.names.ControlKind.TheVariants.{Snapshot}
+use Rattle.teb_rules.specs.declared.history.Event.{Event}
+use Rattle.teb_rules.specs.history.Phases.{aborted}
 use Rattle.teb_rules.specs.Setup.{Setup}
 use Rattle.teb_rules.specs.Tree.{row}
 use Rattle.teb_rules.specs.Batches.{one_batch}
-use Rattle.teb_laws.specs.Lawful.{Lawful}
-use Rattle.teb_laws.specs.TreeFacts.{TreeFacts}
+use Rattle.teb_rules.specs.laws.Lawful.{Lawful}
+use Rattle.teb_rules.specs.laws.TreeFacts.{TreeFacts}
 use Rattle.phase_api.specs.FactsView.{IsOrderly}
 use Rattle.snapshot_node.specs.Standing.{writers_in}
 use Rattle.snapshot_node.specs.Pivots.{IsLeast, IsLeastEdge, IsLeastEdgeAside, IsLeastEdgeFrom, IsLeastAside, IsMateAmong, IsMateByPut, EntersAt, Leads, Leaves, Reaches, ReachesOne, lesser_of, earlier_of}

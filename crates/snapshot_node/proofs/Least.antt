@@ -1,7 +1,7 @@
 -- The least with a property, found piece by piece.
 use Rattle.std.proofs.Common.{◌≡◌, ℕ, ◌<◌, ◌≤◌, Bool, true, false, cond, ltb, List, [], ◌∷◌, ◌⊎◌, inl, inr, Option, Some, None, refl, sym, ◌∙◌, ap, subst, arith}
 use Rattle.std.proofs.lemmas.Bool.{cases_lt, lt-ltb, le-ltb}
-use Rattle.teb_names.specs.declared.Txn.{Txn}
+use Rattle.teb_rules.specs.declared.names.Txn.{Txn}
 use Rattle.batch_book.specs.Fields.{Has}
 use Rattle.snapshot_node.specs.Pivots.{IsLeast, lesser_of}
 

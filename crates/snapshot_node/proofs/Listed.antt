@@ -1,20 +1,20 @@
 -- The transactions of a history that pass a test, in ascending number: the writers of a cell, and its readers.
 use Rattle.std.proofs.Common.{◌≡◌, ℕ, zero, suc, ◌<◌, Bool, true, false, cond, not, ◌&&◌, eqb, List, [], ◌∷◌, length, map, filter, find, get_or, Some, refl, sym, ◌∙◌, inl, inr, arith}
 use Rattle.std.proofs.lemmas.Bool.{and_parts, or_cases, both_ways, eqb-true, eq-eqb, or_left, or_right, cases_Bool, false_from_ne_true}
-use Rattle.teb_names.specs.declared.Cell.{Cell}
-use Rattle.teb_names.specs.declared.Txn.{Txn}
-use Rattle.teb_history.specs.declared.Event.{Event}
-use Rattle.teb_history.specs.Phases.{begun, begun_count, numbers, txns, committed, aborted}
-use Rattle.teb_history.specs.Accesses.{wrote, got}
-use Rattle.teb_history.specs.Ascending.{AllAbove, IsAscendingBy}
-use Rattle.teb_history.specs.Live.{number_of}
-use Rattle.teb_history.proofs.AscendingLists.{ascending-filter}
+use Rattle.teb_rules.specs.declared.names.Cell.{Cell}
+use Rattle.teb_rules.specs.declared.names.Txn.{Txn}
+use Rattle.teb_rules.specs.declared.history.Event.{Event}
+use Rattle.teb_rules.specs.history.Phases.{begun, begun_count, numbers, txns, committed, aborted}
+use Rattle.teb_rules.specs.history.Accesses.{wrote, got}
+use Rattle.teb_rules.specs.history.Ascending.{AllAbove, IsAscendingBy}
+use Rattle.teb_rules.specs.history.Live.{number_of}
+use Rattle.teb_rules.proofs.lemmas.history.AscendingLists.{ascending-filter}
 use Rattle.teb_rules.specs.Setup.{Setup}
 use Rattle.teb_rules.specs.Tree.{on}
 use Rattle.teb_rules.specs.Serializes.{In}
-use Rattle.teb_laws.proofs.AscendingNumbers.{number, numbers_ascending}
-use Rattle.teb_laws.proofs.Locks.{In-numbers}
-use Rattle.teb_laws.proofs.Serial.{In-filter, filter-In}
+use Rattle.teb_rules.proofs.lemmas.laws.AscendingNumbers.{number, numbers_ascending}
+use Rattle.teb_rules.proofs.lemmas.laws.Locks.{In-numbers}
+use Rattle.teb_rules.proofs.lemmas.laws.Serial.{In-filter, filter-In}
 use Rattle.phase_api.specs.declared.facts.Facts.{Facts}
 use Rattle.phase_api.specs.FactsView.{IsOrderly, setup_of, events_of}
 use Rattle.phase_api.specs.Calls.{IsHere}

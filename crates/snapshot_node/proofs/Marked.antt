@@ -2,27 +2,27 @@
 use Rattle.std.specs.Prelude.{IsTrue}
 use Rattle.std.proofs.Common.{◌≡◌, ℕ, zero, suc, ◌<◌, ◌≤◌, min, Bool, true, false, ◌||◌, eqb, ltb, List, [], ◌∷◌, ◌++◌, Some, refl, sym, ◌∙◌, ap, subst, inl, inr, arith, length, get_or, lt-ltb, le-ltb, ltb-true, length-append, le_refl, eqb-true}
 use Rattle.std.proofs.lemmas.Bool.{cases_lt, both_ways, and_parts, and_from, or_cases, or_left, or_right}
-use Rattle.teb_names.specs.declared.Txn.{Txn}
-use Rattle.teb_names.specs.declared.Cell.{Cell}
-use Rattle.teb_names.specs.Cells.{same_cell}
-use Rattle.teb_history.specs.declared.Event.{Event}
-use Rattle.teb_history.specs.declared.Event.TheVariants.{Got, Ready, Done}
-use Rattle.teb_history.specs.Accesses.{is_got, got, got_at, wrote, put_at}
-use Rattle.teb_history.specs.Phases.{prepared, committed, aborted, begun, began_at, ready_at, done_at, is_ready, is_done}
-use Rattle.teb_history.specs.Positions.{upto, newest, first_event}
+use Rattle.teb_rules.specs.declared.names.Txn.{Txn}
+use Rattle.teb_rules.specs.declared.names.Cell.{Cell}
+use Rattle.teb_rules.specs.names.Cells.{same_cell}
+use Rattle.teb_rules.specs.declared.history.Event.{Event}
+use Rattle.teb_rules.specs.declared.history.Event.TheVariants.{Got, Ready, Done}
+use Rattle.teb_rules.specs.history.Accesses.{is_got, got, got_at, wrote, put_at}
+use Rattle.teb_rules.specs.history.Phases.{prepared, committed, aborted, begun, began_at, ready_at, done_at, is_ready, is_done}
+use Rattle.teb_rules.specs.history.Positions.{upto, newest, first_event}
 use Rattle.teb_rules.specs.Setup.{Setup}
 use Rattle.teb_rules.specs.Tree.{meets, on}
 use Rattle.teb_rules.specs.Batches.{start, close, concurrent}
-use Rattle.teb_laws.specs.Lawful.{Lawful}
-use Rattle.teb_laws.specs.Pivots.{IsSettled}
-use Rattle.teb_laws.proofs.Positions.{upto_all, upto_cons}
-use Rattle.teb_laws.proofs.Timeline.{Lawful-upto, event_first, wrote-upto, got-upto, meets-upto, committed-upto}
-use Rattle.teb_laws.proofs.Ranks.{start-upto, commits}
-use Rattle.teb_laws.proofs.SnapshotWrites.{close-upto}
-use Rattle.teb_laws.proofs.Serial.{commits_from}
-use Rattle.teb_laws.proofs.Nodes.{meets_parts}
-use Rattle.teb_laws.proofs.Intervals.{interval}
-use Rattle.teb_laws.proofs.Pivots.{IsVouched, vouched_at, vouched_committed, vouched_prepared, vouched_time, prepared_from, put_vouched, got_vouched}
+use Rattle.teb_rules.specs.laws.Lawful.{Lawful}
+use Rattle.teb_rules.specs.laws.Pivots.{IsSettled}
+use Rattle.teb_rules.proofs.lemmas.laws.Positions.{upto_all, upto_cons}
+use Rattle.teb_rules.proofs.lemmas.laws.Timeline.{Lawful-upto, event_first, wrote-upto, got-upto, meets-upto, committed-upto}
+use Rattle.teb_rules.proofs.lemmas.laws.Ranks.{start-upto, commits}
+use Rattle.teb_rules.proofs.lemmas.laws.SnapshotWrites.{close-upto}
+use Rattle.teb_rules.proofs.lemmas.laws.Serial.{commits_from}
+use Rattle.teb_rules.proofs.lemmas.laws.Nodes.{meets_parts}
+use Rattle.teb_rules.proofs.lemmas.laws.Intervals.{interval}
+use Rattle.teb_rules.proofs.lemmas.laws.Pivots.{IsVouched, vouched_at, vouched_committed, vouched_prepared, vouched_time, prepared_from, put_vouched, got_vouched}
 use Rattle.batch_book.proofs.Numbered.{begun_step, unfinished_parts}
 use Rattle.phase_api.specs.Calls.{MayNote}
 use Rattle.snapshot_node.proofs.Edges.{prepared_runs}

@@ -2,19 +2,19 @@
 use Rattle.std.specs.Prelude.{IsTrue, IsFalse}
 use Rattle.std.proofs.Common.{◌≡◌, ◌≢◌, ℕ, true, false, ◌||◌, eqb, List, sym, ap, subst, inl, inr, eq-eqb, ◌∙◌}
 use Rattle.std.proofs.lemmas.Bool.{cases_eq, both_ways, or_left, or_right}
-use Rattle.teb_names.specs.declared.ControlKind.TheVariants.{Snapshot}
-use Rattle.teb_names.specs.declared.Txn.{Txn}
-use Rattle.teb_history.specs.declared.Event.{Event}
-use Rattle.teb_history.specs.Phases.{aborted}
+use Rattle.teb_rules.specs.declared.names.ControlKind.TheVariants.{Snapshot}
+use Rattle.teb_rules.specs.declared.names.Txn.{Txn}
+use Rattle.teb_rules.specs.declared.history.Event.{Event}
+use Rattle.teb_rules.specs.history.Phases.{aborted}
 use Rattle.teb_rules.specs.Accepted.{IsSound}
 use Rattle.teb_rules.specs.Setup.{Setup}
 use Rattle.teb_rules.specs.Tree.{row}
 use Rattle.teb_rules.specs.Batches.{start, one_batch}
 use Rattle.teb_rules.specs.Controls.{edge}
-use Rattle.teb_laws.specs.Lawful.{Lawful}
-use Rattle.teb_laws.proofs.Sound.{tree_facts}
-use Rattle.teb_laws.proofs.Nodes.{meets_parts}
-use Rattle.teb_laws.proofs.Pivots.{edge_parts}
+use Rattle.teb_rules.specs.laws.Lawful.{Lawful}
+use Rattle.teb_rules.proofs.lemmas.laws.Sound.{tree_facts}
+use Rattle.teb_rules.proofs.lemmas.laws.Nodes.{meets_parts}
+use Rattle.teb_rules.proofs.lemmas.laws.Pivots.{edge_parts}
 use Rattle.phase_api.specs.FactsView.{IsOrderly}
 use Rattle.snapshot_node.specs.declared.marks.Mark.{Mark}
 use Rattle.snapshot_node.specs.declared.validation.Validation.{Validation}

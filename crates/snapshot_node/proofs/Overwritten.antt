@@ -3,25 +3,25 @@
 use Rattle.std.proofs.Common.{◌≡◌, ◌≢◌, ◌⊎◌, ℕ, suc, ◌+◌, ◌<◌, ◌≤◌, true, false, ◌&&◌, List, length, get_or, sym, ap, ◌∙◌, inl, inr, arith, ltb-true, lt-ltb}
 use Rattle.std.proofs.lemmas.Bool.{cases_eq, cases_lt, cases_order, cases_Bool, both_ways, and_parts, and_from, or_cases, or_right, false_from_ne_true, ltb-false}
 use Rattle.std.proofs.lemmas.List.{get_or-take, get_or_default, length-take}
-use Rattle.teb_names.specs.declared.Cell.{Cell}
-use Rattle.teb_names.specs.declared.Txn.{Txn}
-use Rattle.teb_names.specs.declared.ControlKind.TheVariants.{Snapshot}
-use Rattle.teb_history.specs.declared.Event.{Event}
-use Rattle.teb_history.specs.Accesses.{wrote, put_at}
-use Rattle.teb_history.specs.Phases.{txns, begun, began_at, gone_at, committed, unfinished, aborted}
-use Rattle.teb_history.specs.Positions.{upto}
+use Rattle.teb_rules.specs.declared.names.Cell.{Cell}
+use Rattle.teb_rules.specs.declared.names.Txn.{Txn}
+use Rattle.teb_rules.specs.declared.names.ControlKind.TheVariants.{Snapshot}
+use Rattle.teb_rules.specs.declared.history.Event.{Event}
+use Rattle.teb_rules.specs.history.Accesses.{wrote, put_at}
+use Rattle.teb_rules.specs.history.Phases.{txns, begun, began_at, gone_at, committed, unfinished, aborted}
+use Rattle.teb_rules.specs.history.Positions.{upto}
 use Rattle.teb_rules.specs.Setup.{Setup}
 use Rattle.teb_rules.specs.Tree.{row, on, side, meets}
 use Rattle.teb_rules.specs.Batches.{start, close, concurrent}
-use Rattle.teb_laws.specs.Lawful.{Lawful}
-use Rattle.teb_laws.proofs.Lists.{list_any_from}
-use Rattle.teb_laws.proofs.Timeline.{put_order, put_granted, Lawful-upto, begun-upto, begun_counted, begun_there}
-use Rattle.teb_laws.proofs.Nodes.{meets_parts, meets_from, meets_sym}
-use Rattle.teb_laws.proofs.Ranks.{commits, same_close}
-use Rattle.teb_laws.proofs.Serial.{commits_from}
-use Rattle.teb_laws.proofs.Intervals.{interval, apart_or_same}
-use Rattle.teb_laws.proofs.SnapshotWrites.{snapshot_write}
-use Rattle.teb_laws.proofs.VersionOrder.{put_differs}
+use Rattle.teb_rules.specs.laws.Lawful.{Lawful}
+use Rattle.teb_rules.proofs.lemmas.laws.Lists.{list_any_from}
+use Rattle.teb_rules.proofs.lemmas.laws.Timeline.{put_order, put_granted, Lawful-upto, begun-upto, begun_counted, begun_there}
+use Rattle.teb_rules.proofs.lemmas.laws.Nodes.{meets_parts, meets_from, meets_sym}
+use Rattle.teb_rules.proofs.lemmas.laws.Ranks.{commits, same_close}
+use Rattle.teb_rules.proofs.lemmas.laws.Serial.{commits_from}
+use Rattle.teb_rules.proofs.lemmas.laws.Intervals.{interval, apart_or_same}
+use Rattle.teb_rules.proofs.lemmas.laws.SnapshotWrites.{snapshot_write}
+use Rattle.teb_rules.proofs.lemmas.laws.VersionOrder.{put_differs}
 use Rattle.batch_book.proofs.Numbered.{begun_all, txns-In, unfinished_parts}
 use Rattle.batch_book.proofs.Telling.{lawful_numbered}
 use Rattle.phase_api.specs.FactsView.{IsOrderly}

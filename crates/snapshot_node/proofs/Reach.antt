@@ -1,14 +1,14 @@
 -- The validating transaction is in every pivot, since those that were validated before have no pivot among themselves.
 use Rattle.std.proofs.Common.{◌≡◌, ◌≢◌, ◌∙◌, ℕ, true, ◌||◌, eqb, List, ap, inl, inr, eqb-true}
 use Rattle.std.proofs.lemmas.Bool.{cases_eq, or_cases, or_left, or_right}
-use Rattle.teb_names.specs.declared.ControlKind.TheVariants.{Snapshot}
-use Rattle.teb_history.specs.declared.Event.{Event}
-use Rattle.teb_history.specs.Phases.{prepared, committed}
+use Rattle.teb_rules.specs.declared.names.ControlKind.TheVariants.{Snapshot}
+use Rattle.teb_rules.specs.declared.history.Event.{Event}
+use Rattle.teb_rules.specs.history.Phases.{prepared, committed}
 use Rattle.teb_rules.specs.Setup.{Setup}
 use Rattle.teb_rules.specs.Tree.{row}
-use Rattle.teb_laws.specs.Lawful.{Lawful}
-use Rattle.teb_laws.specs.TreeFacts.{TreeFacts}
-use Rattle.teb_laws.proofs.Pivots.{no_stake_pivot}
+use Rattle.teb_rules.specs.laws.Lawful.{Lawful}
+use Rattle.teb_rules.specs.laws.TreeFacts.{TreeFacts}
+use Rattle.teb_rules.proofs.lemmas.laws.Pivots.{no_stake_pivot}
 use Rattle.snapshot_node.specs.Pivots.{is_at_stake, IsPivot}
 
 -- every other transaction at stake was validated before

@@ -1,29 +1,29 @@
 -- At a snapshot node, a reader of a cell that a concurrent batch of another side puts has read an earlier version.
 use Rattle.std.proofs.Common.{◌≡◌, ◌≢◌, ℕ, ◌<◌, ◌≤◌, true, false, ltb, List, Option, refl, sym, ◌∙◌, ap, subst, inl, inr, arith, ℤ, length, lt-ltb, ltb-true}
 use Rattle.std.proofs.lemmas.Bool.{cases_lt, cases_eq, cases_Bool}
-use Rattle.teb_names.specs.declared.Txn.{Txn}
-use Rattle.teb_names.specs.declared.Cell.{Cell}
-use Rattle.teb_names.specs.declared.ControlKind.TheVariants.{Snapshot}
-use Rattle.teb_history.specs.declared.Event.{Event}
-use Rattle.teb_history.specs.Accesses.{put_at}
-use Rattle.teb_history.specs.Phases.{began_at, done_at, gone_at, spot_of}
-use Rattle.teb_history.specs.Positions.{upto}
+use Rattle.teb_rules.specs.declared.names.Txn.{Txn}
+use Rattle.teb_rules.specs.declared.names.Cell.{Cell}
+use Rattle.teb_rules.specs.declared.names.ControlKind.TheVariants.{Snapshot}
+use Rattle.teb_rules.specs.declared.history.Event.{Event}
+use Rattle.teb_rules.specs.history.Accesses.{put_at}
+use Rattle.teb_rules.specs.history.Phases.{began_at, done_at, gone_at, spot_of}
+use Rattle.teb_rules.specs.history.Positions.{upto}
 use Rattle.teb_rules.specs.Setup.{Setup, among}
 use Rattle.teb_rules.specs.Tree.{row, on, side, meets, is_timestamp, is_snapshot}
 use Rattle.teb_rules.specs.Batches.{start, close}
 use Rattle.teb_rules.specs.Versions.{precedes, sees_by}
-use Rattle.teb_laws.specs.Lawful.{Lawful}
-use Rattle.teb_laws.specs.TreeFacts.{TreeFacts}
-use Rattle.teb_laws.proofs.Timeline.{unfinished-upto, put_order, put_granted, kind-lt, begun_counted}
-use Rattle.teb_laws.proofs.Nodes.{front_of, meets_parts, meets_from, comparable, on-path_of, above, front-less}
-use Rattle.teb_laws.proofs.Meeting.{meets_exists}
-use Rattle.teb_laws.proofs.ReadRule.{GotAt, from_own, from_seen, from_row, got_case}
-use Rattle.teb_laws.proofs.Assembly.{seen_at, wrote_here}
-use Rattle.teb_laws.proofs.NodeFacts.{visible_at}
-use Rattle.teb_laws.proofs.Ranks.{start-upto, same_close}
-use Rattle.teb_laws.proofs.Intervals.{interval, open_while, apart_or_same, nested}
-use Rattle.teb_laws.proofs.SnapshotWrites.{close-upto, snapshot_write}
-use Rattle.teb_laws.proofs.VersionOrder.{precedes_at, precedes_row, put_differs, orders_start, orders_put, timestamp_is}
+use Rattle.teb_rules.specs.laws.Lawful.{Lawful}
+use Rattle.teb_rules.specs.laws.TreeFacts.{TreeFacts}
+use Rattle.teb_rules.proofs.lemmas.laws.Timeline.{unfinished-upto, put_order, put_granted, kind-lt, begun_counted}
+use Rattle.teb_rules.proofs.lemmas.laws.Nodes.{front_of, meets_parts, meets_from, comparable, on-path_of, above, front-less}
+use Rattle.teb_rules.proofs.lemmas.laws.Meeting.{meets_exists}
+use Rattle.teb_rules.proofs.lemmas.laws.ReadRule.{GotAt, from_own, from_seen, from_row, got_case}
+use Rattle.teb_rules.proofs.lemmas.laws.Assembly.{seen_at, wrote_here}
+use Rattle.teb_rules.proofs.lemmas.laws.NodeFacts.{visible_at}
+use Rattle.teb_rules.proofs.lemmas.laws.Ranks.{start-upto, same_close}
+use Rattle.teb_rules.proofs.lemmas.laws.Intervals.{interval, open_while, apart_or_same, nested}
+use Rattle.teb_rules.proofs.lemmas.laws.SnapshotWrites.{close-upto, snapshot_write}
+use Rattle.teb_rules.proofs.lemmas.laws.VersionOrder.{precedes_at, precedes_row, put_differs, orders_start, orders_put, timestamp_is}
 
 module _ (S : Setup) (a : TreeFacts S) (H : List Event) (n : ℕ) (l : Lawful S H) (c : (row S.tree n).control ≡ Snapshot) where
   -- of two writers of different sides, the earlier one's batch is closed before the later one's starts

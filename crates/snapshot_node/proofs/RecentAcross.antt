@@ -1,9 +1,9 @@
 -- The transactions across from a given one are in the part of a list from its horizon on.
 use Rattle.std.proofs.Common.{◌≡◌, ℕ, true, List, Option, leb, sym, ◌∙◌, ap, subst}
-use Rattle.teb_names.specs.declared.Txn.{Txn}
-use Rattle.teb_history.specs.Ascending.{IsAscendingBy}
-use Rattle.teb_history.specs.Live.{number_of}
-use Rattle.teb_history.proofs.AscendingLists.{ascending-filter}
+use Rattle.teb_rules.specs.declared.names.Txn.{Txn}
+use Rattle.teb_rules.specs.history.Ascending.{IsAscendingBy}
+use Rattle.teb_rules.specs.history.Live.{number_of}
+use Rattle.teb_rules.proofs.lemmas.history.AscendingLists.{ascending-filter}
 use Rattle.phase_api.specs.FactsView.{setup_of, events_of}
 use Rattle.snapshot_node.specs.declared.asked.Asked.{Asked}
 use Rattle.access_book.specs.Books.{is_among}

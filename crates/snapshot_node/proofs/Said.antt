@@ -1,15 +1,15 @@
 -- The answers of a snapshot node.
 use Rattle.std.proofs.Common.{◌≡◌, ℕ, Bool, true, false, cond, not, ◌&&◌, eqb, ltb, List, find, Option, Some, None, refl, sym, ◌∙◌, ap}
 use Rattle.std.proofs.lemmas.Bool.{eq-eqb, ne_eqb}
-use Rattle.teb_names.specs.declared.Cell.{Cell}
-use Rattle.teb_names.specs.declared.Txn.{Txn}
-use Rattle.teb_names.specs.declared.Spot.{Spot}
-use Rattle.teb_names.specs.declared.ControlKind.TheVariants.{Snapshot}
-use Rattle.teb_history.specs.declared.Event.{Event}
-use Rattle.teb_history.specs.Phases.{txns, unfinished}
-use Rattle.teb_history.specs.Accesses.{put_at, wrote}
-use Rattle.teb_history.specs.Written.{txn_of}
-use Rattle.teb_history.proofs.LeastNumbers.{nobody}
+use Rattle.teb_rules.specs.declared.names.Cell.{Cell}
+use Rattle.teb_rules.specs.declared.names.Txn.{Txn}
+use Rattle.teb_rules.specs.declared.names.Spot.{Spot}
+use Rattle.teb_rules.specs.declared.names.ControlKind.TheVariants.{Snapshot}
+use Rattle.teb_rules.specs.declared.history.Event.{Event}
+use Rattle.teb_rules.specs.history.Phases.{txns, unfinished}
+use Rattle.teb_rules.specs.history.Accesses.{put_at, wrote}
+use Rattle.teb_rules.specs.history.Written.{txn_of}
+use Rattle.teb_rules.proofs.lemmas.history.LeastNumbers.{nobody}
 use Rattle.teb_rules.specs.Setup.{Setup}
 use Rattle.teb_rules.specs.Tree.{row, leaf, meets, has_batches, side_at}
 use Rattle.teb_rules.specs.Batches.{start, close}

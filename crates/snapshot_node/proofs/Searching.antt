@@ -1,18 +1,18 @@
 -- The definition's search through the pairs of edges finds the least pivot, compared by its first transaction, then its second, and so on.
 use Rattle.std.proofs.Common.{◌≡◌, ℕ, zero, suc, ◌<◌, ◌≤◌, Bool, true, false, cond, List, [], ◌∷◌, ◌++◌, ◌⊎◌, map, filter, find, flat_map, Option, Some, None, refl, sym, ◌∙◌, ap, subst, arith, inl, inr}
 use Rattle.std.proofs.lemmas.Bool.{cases_lt, both_ways, false_from_ne_true}
-use Rattle.teb_names.specs.declared.ControlKind.TheVariants.{Snapshot}
-use Rattle.teb_names.specs.declared.Txn.{Txn}
-use Rattle.teb_history.specs.declared.Event.{Event}
-use Rattle.teb_history.specs.Phases.{numbers, txns, begun, begun_count}
+use Rattle.teb_rules.specs.declared.names.ControlKind.TheVariants.{Snapshot}
+use Rattle.teb_rules.specs.declared.names.Txn.{Txn}
+use Rattle.teb_rules.specs.declared.history.Event.{Event}
+use Rattle.teb_rules.specs.history.Phases.{numbers, txns, begun, begun_count}
 use Rattle.teb_rules.specs.Serializes.{In}
 use Rattle.teb_rules.specs.Setup.{Setup}
 use Rattle.teb_rules.specs.Tree.{row}
 use Rattle.teb_rules.specs.Batches.{one_batch}
 use Rattle.teb_rules.specs.Controls.{edge, edges, quads, at_stake, validate, pivot_break}
 use Rattle.teb_rules.specs.declared.Broken.TheVariants.{Pivot}
-use Rattle.teb_laws.proofs.Pivots.{Has, Has-map_from, find_has, edges_from, quads_from}
-use Rattle.teb_laws.proofs.Serial.{numbers-In, filter-In}
+use Rattle.teb_rules.proofs.lemmas.laws.Pivots.{Has, Has-map_from, find_has, edges_from, quads_from}
+use Rattle.teb_rules.proofs.lemmas.laws.Serial.{numbers-In, filter-In}
 use Rattle.phase_api.specs.FactsView.{IsOrderly}
 use Rattle.snapshot_node.specs.Pivots.{is_at_stake, IsLeast, IsLeastEdge, Leads, IsPivot, IsFirst, IsMiddle, break_by}
 use Rattle.snapshot_node.proofs.Batchmates.{edge_begun}

@@ -1,11 +1,11 @@
 -- Which history the committed writers of each cell stand for, and how many more there may be.
 use Rattle.std.specs.Prelude.{◌≡◌, ℕ, Bool, true, false, ◌&&◌, List}
 use Rattle.std.specs.List.{count_by}
-use Rattle.teb_names.specs.declared.Cell.{Cell}
-use Rattle.teb_history.specs.declared.Event.{Event}
-use Rattle.teb_history.specs.declared.Event.TheVariants.{Put}
-use Rattle.teb_history.specs.Phases.{unfinished}
-use Rattle.teb_history.specs.OwnEvents.{own_events}
+use Rattle.teb_rules.specs.declared.names.Cell.{Cell}
+use Rattle.teb_rules.specs.declared.history.Event.{Event}
+use Rattle.teb_rules.specs.declared.history.Event.TheVariants.{Put}
+use Rattle.teb_rules.specs.history.Phases.{unfinished}
+use Rattle.teb_rules.specs.history.OwnEvents.{own_events}
 use Rattle.teb_rules.specs.Setup.{Setup}
 use Rattle.teb_rules.specs.Tree.{on}
 use Rattle.access_book.specs.Books.{Shown, committed_of, is_accessor}

@@ -1,6 +1,6 @@
 -- What a snapshot control shows of itself.
 use Rattle.std.specs.Prelude.{ℕ, min, ◌-◌, vec_len, vec_capacity, List}
-use Rattle.teb_history.specs.declared.Event.{Event}
+use Rattle.teb_rules.specs.declared.history.Event.{Event}
 use Rattle.teb_rules.specs.Setup.{Setup}
 use Rattle.snapshot_node.specs.Stood.{room_of}
 use Rattle.snapshot_node.specs.Marks.{MarkedStand}

@@ -1,15 +1,15 @@
 -- Marks of batches and of transactions: whether an edge of those that are prepared or committed leads into a batch, and whether one leaves it; and whether one
 -- leads to a transaction, and whether one leads from it.
 use Rattle.std.specs.Prelude.{◌≡◌, ◌≤◌, ◌-◌, ℕ, Bool, false, IsTrue, List, length, get_or, Option, Some, None}
-use Rattle.teb_names.specs.declared.Cell.{Cell}
-use Rattle.teb_names.specs.declared.Txn.{Txn}
-use Rattle.teb_history.specs.declared.Event.{Event}
-use Rattle.teb_history.specs.declared.Event.TheVariants.{Ready, Done}
-use Rattle.teb_history.specs.Accesses.{wrote, got}
+use Rattle.teb_rules.specs.declared.names.Cell.{Cell}
+use Rattle.teb_rules.specs.declared.names.Txn.{Txn}
+use Rattle.teb_rules.specs.declared.history.Event.{Event}
+use Rattle.teb_rules.specs.declared.history.Event.TheVariants.{Ready, Done}
+use Rattle.teb_rules.specs.history.Accesses.{wrote, got}
 use Rattle.teb_rules.specs.Setup.{Setup}
 use Rattle.teb_rules.specs.Batches.{start}
-use Rattle.teb_laws.specs.Lawful.{Lawful}
-use Rattle.teb_laws.specs.Pivots.{IsSettled}
+use Rattle.teb_rules.specs.laws.Lawful.{Lawful}
+use Rattle.teb_rules.specs.laws.Pivots.{IsSettled}
 use Rattle.batch_book.specs.Book.{Book}
 use Rattle.access_book.specs.Books.{Shown}
 use Rattle.snapshot_node.specs.declared.marks.Mark.{Mark}

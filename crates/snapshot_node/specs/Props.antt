@@ -2,11 +2,11 @@
 use Rattle.std.specs.Prelude.{ℕ, List, [], ◌∷◌}
 use Rattle.std.proofs.Props.{props}
 use Rattle.std.specs.Coded.{×_prop, Unit-prop, le_prop}
-use Rattle.teb_history.specs.declared.Event.{Event}
-use Rattle.teb_history.specs.declared.Event.TheVariants.{Began, Got, Put, Ready, Done, Gone, Told}
-use Rattle.teb_history.specs.Ascending.{AllAbove, IsAscendingBy}
+use Rattle.teb_rules.specs.declared.history.Event.{Event}
+use Rattle.teb_rules.specs.declared.history.Event.TheVariants.{Began, Got, Put, Ready, Done, Gone, Told}
+use Rattle.teb_rules.specs.history.Ascending.{AllAbove, IsAscendingBy}
 use Rattle.teb_rules.specs.Setup.{Setup}
-use Rattle.teb_laws.specs.Lawful.{Granted, Lawful}
+use Rattle.teb_rules.specs.laws.Lawful.{Granted, Lawful}
 use Rattle.batch_book.specs.Histories.{MayCome, IsNumbered}
 
 pub AllAbove-prop : {A : Type 0} (key : A → ℕ) (n : ℕ) (xs : List A) → IsProp (AllAbove key n xs)

@@ -1,6 +1,6 @@
 -- Which history a register stands for, and for how many events it has room.
 use Rattle.std.specs.Prelude.{ℕ, List, min}
-use Rattle.teb_history.specs.declared.Event.{Event}
+use Rattle.teb_rules.specs.declared.history.Event.{Event}
 use Rattle.teb_rules.specs.Setup.{Setup}
 use Rattle.phase_api.specs.declared.facts.Facts.{Facts}
 use Rattle.phase_api.specs.FactsView.{setup_of, events_of}

@@ -1,7 +1,7 @@
 -- Definitions about a validation.
 use Rattle.std.specs.Prelude.{ℕ, Bool, ◌||◌, eqb, List, IsTrue, IsFalse}
-use Rattle.teb_names.specs.declared.Txn.{Txn}
-use Rattle.teb_history.specs.declared.Event.{Event}
+use Rattle.teb_rules.specs.declared.names.Txn.{Txn}
+use Rattle.teb_rules.specs.declared.history.Event.{Event}
 use Rattle.teb_rules.specs.Setup.{Setup}
 use Rattle.teb_rules.specs.Tree.{row}
 use Rattle.teb_rules.specs.Batches.{start}

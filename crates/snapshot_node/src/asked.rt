@@ -9,7 +9,7 @@ ghost use Rattle.snapshot_node.specs.Props.{kept};
 use crate::register::Register;
 use access_book::Accesses;
 use phase_api::Facts;
-use teb_names::{Cell, Txn};
+use teb_rules::names::{Cell, Txn};
 
 /// A control, with the facts of the history that it stands for.
 #[derive(Clone, Copy)]

@@ -8,7 +8,7 @@ ghost use Rattle.snapshot_node.specs.Validating.{at, AreOwn, may_lead, may_be_le
 use crate::marks::{mark_at, place_of};
 use crate::neighbours::{is_at_stake, lesser};
 use crate::validation::{Own, Validation};
-use teb_names::Txn;
+use teb_rules::names::Txn;
 
 /// Returns the one of two edges with the lesser tail, or the only one.
 fn earlier(known: Option<(Txn, Txn)>, edge: (Txn, Txn)) -> Option<(Txn, Txn)>

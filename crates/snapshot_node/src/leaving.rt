@@ -7,9 +7,9 @@
 ghost use Rattle.std.specs.Prelude.{◌≡◌, IsTrue};
 ghost use Rattle.sorted_multimap.specs.LastMatches.{IsLastPlace};
 ghost use Rattle.teb_rules.specs.Batches.{close};
-ghost use Rattle.teb_history.specs.Phases.{committed};
+ghost use Rattle.teb_rules.specs.history.Phases.{committed};
 ghost use Rattle.teb_rules.specs.Accepted.{IsSound};
-ghost use Rattle.teb_laws.specs.Lawful.{Lawful};
+ghost use Rattle.teb_rules.specs.laws.Lawful.{Lawful};
 ghost use Rattle.phase_api.specs.FactsView.{setup_of, events_of};
 ghost use Rattle.phase_api.specs.Calls.{IsHere};
 ghost use Rattle.snapshot_node.specs.Asking.{IsAt, history, there};
@@ -20,8 +20,8 @@ use crate::asked::Asked;
 use crate::marks::{mark_at, place_of};
 use crate::snapshot::Snapshot;
 use phase_api::Facts;
-use teb_history::{Event, History};
-use teb_names::{Cell, Txn};
+use teb_rules::history::{Event, History};
+use teb_rules::names::{Cell, Txn};
 
 impl Snapshot {
     /// Returns whether an edge leads from `a`, which is committed and has the node on its path, to a committed transaction. It costs

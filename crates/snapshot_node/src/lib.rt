@@ -23,7 +23,7 @@
 //!
 //! **What is proved.** [`Snapshot`] implements `Control` of `phase_api`: each answer is that of `teb_rules` for a snapshot node, and
 //! a pivot is the least one (`validate` of `Controls`). That prepared and committed transactions hold no pivot is a law
-//! (`settled_hold_no_pivot` of `teb_laws`).
+//! (`settled_hold_no_pivot` of `teb_rules::laws`).
 //!
 //! **What it costs.** Edges are not stored, since an edge to a prepared transaction goes away if that one aborts. A validation finds
 //! them by cell, from the *horizon* on: the first transaction that may be concurrent. Two *marks* for each batch and each transaction

@@ -1,7 +1,7 @@
 //! The marks at the edges of a transaction that was validated.
 
 ghost use Rattle.std.specs.Prelude.{◌≡◌, ◌≤◌, ℕ, IsTrue, length};
-ghost use Rattle.teb_laws.specs.Lawful.{Lawful};
+ghost use Rattle.teb_rules.specs.laws.Lawful.{Lawful};
 ghost use Rattle.phase_api.specs.FactsView.{setup_of};
 ghost use Rattle.snapshot_node.specs.Asking.{IsAt, AreThere, IsGranted, history, there};
 ghost use Rattle.snapshot_node.specs.Marks.{validated_txn, HaveGrown, IsTold, Touches};
@@ -11,8 +11,8 @@ use crate::asked::Asked;
 use crate::marks::{Mark, mark_edge, mark_ends, place_of};
 use crate::neighbours::is_at_stake;
 use access_book::Access;
-use teb_history::Event;
-use teb_names::Txn;
+use teb_rules::history::Event;
+use teb_rules::names::Txn;
 
 /// Returns the transaction that an event shows to be validated.
 pub(crate) fn validated(e: Event) -> Option<Txn>

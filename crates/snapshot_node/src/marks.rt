@@ -3,7 +3,7 @@
 ghost use Rattle.std.specs.Prelude.{◌≡◌, ◌<◌, length, get_or, IsTrue};
 ghost use Rattle.snapshot_node.specs.Marks.{no_mark, is_left, is_entered, is_behind, is_ahead, place_of_txn, HaveGrown};
 
-use teb_names::Txn;
+use teb_rules::names::Txn;
 
 /// What is known of the edges at the batch that starts at the event of a place, and at the transaction of that place.
 #[derive(Clone, Copy)]

@@ -1,8 +1,8 @@
 //! Whether a transaction may be in a pivot, by its own edges and by the marks of batches.
 
 ghost use Rattle.std.specs.Prelude.{◌≡◌, ℕ, IsTrue, IsFalse, get_or};
-ghost use Rattle.teb_history.specs.Ascending.{IsAscendingBy};
-ghost use Rattle.teb_history.specs.Live.{number_of};
+ghost use Rattle.teb_rules.specs.history.Ascending.{IsAscendingBy};
+ghost use Rattle.teb_rules.specs.history.Live.{number_of};
 ghost use Rattle.teb_rules.specs.Batches.{start};
 ghost use Rattle.snapshot_node.specs.Asking.{IsAt, there};
 ghost use Rattle.snapshot_node.specs.Marks.{no_mark};
@@ -12,7 +12,7 @@ ghost use Rattle.snapshot_node.specs.Validating.{AreAt, AreOwn, at, is_marked_en
 use crate::marks::{Mark, mark_at};
 use crate::neighbours::is_at_stake;
 use crate::validation::{Own, Validation};
-use teb_names::Txn;
+use teb_rules::names::Txn;
 
 impl<'a> Validation<'a> {
     /// Returns whether t may be in a pivot, by its own edges. With edges of both kinds it may. With edges of one kind only, an edge of others

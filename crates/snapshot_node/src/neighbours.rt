@@ -2,8 +2,8 @@
 //! of the cells that it has put or read.
 
 ghost use Rattle.std.specs.Prelude.{◌≡◌};
-ghost use Rattle.teb_history.specs.Ascending.{IsAscendingBy};
-ghost use Rattle.teb_history.specs.Live.{number_of};
+ghost use Rattle.teb_rules.specs.history.Ascending.{IsAscendingBy};
+ghost use Rattle.teb_rules.specs.history.Live.{number_of};
 ghost use Rattle.teb_rules.specs.Batches.{one_batch};
 ghost use Rattle.snapshot_node.specs.Asking.{HasBegun, IsAt, there};
 ghost use Rattle.snapshot_node.specs.Validating.{AreAt, AreOwn, IsAtStake, at};
@@ -11,8 +11,8 @@ ghost use Rattle.snapshot_node.specs.Pivots.{is_at_stake, is_across, lesser_of, 
 
 use crate::validation::{Own, Validation};
 use access_book::Access;
-use teb_history::History;
-use teb_names::Txn;
+use teb_rules::history::History;
+use teb_rules::names::Txn;
 
 /// Returns whether u is at stake when t validates: it is t itself, or prepared or committed.
 #[inline(always)]

@@ -1,11 +1,11 @@
 //! Ascending transactions from a number on.
 
 ghost use Rattle.std.specs.Prelude.{◌≡◌, ◌<◌, filter, get_or, leb, length};
-ghost use Rattle.teb_names.specs.declared.Txn.{Txn};
-ghost use Rattle.teb_history.specs.Ascending.{IsAscendingBy};
-ghost use Rattle.teb_history.specs.Live.{number_of};
+ghost use Rattle.teb_rules.specs.declared.names.Txn.{Txn};
+ghost use Rattle.teb_rules.specs.history.Ascending.{IsAscendingBy};
+ghost use Rattle.teb_rules.specs.history.Live.{number_of};
 
-use teb_names::Txn;
+use teb_rules::names::Txn;
 
 /// `from_number` looks at this many of the last ones before it searches all.
 const FEW: usize = 4;

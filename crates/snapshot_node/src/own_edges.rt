@@ -1,6 +1,6 @@
 //! Edges between the transaction that validates and the members of a batch.
-ghost use Rattle.teb_history.specs.Ascending.{IsAscendingBy};
-ghost use Rattle.teb_history.specs.Live.{number_of};
+ghost use Rattle.teb_rules.specs.history.Ascending.{IsAscendingBy};
+ghost use Rattle.teb_rules.specs.history.Live.{number_of};
 ghost use Rattle.snapshot_node.specs.Asking.{IsAt};
 ghost use Rattle.snapshot_node.specs.Pivots.{IsLeast, IsMateAmong, EntersAt, Leaves};
 ghost use Rattle.snapshot_node.specs.Validating.{AreAt, at};
@@ -8,7 +8,7 @@ ghost use Rattle.snapshot_node.specs.Validating.{AreAt, at};
 use crate::neighbours::{is_at_stake, lesser};
 use crate::validation::Validation;
 use access_book::Access;
-use teb_names::Txn;
+use teb_rules::names::Txn;
 
 impl<'a> Validation<'a> {
     /// Returns the least member of b's batch that has an edge to t.

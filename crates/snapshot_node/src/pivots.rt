@@ -4,8 +4,8 @@
 //! found from the edges at that transaction and at its batch.
 
 ghost use Rattle.std.specs.Prelude.{◌≡◌};
-ghost use Rattle.teb_history.specs.Ascending.{IsAscendingBy};
-ghost use Rattle.teb_history.specs.Live.{number_of};
+ghost use Rattle.teb_rules.specs.history.Ascending.{IsAscendingBy};
+ghost use Rattle.teb_rules.specs.history.Live.{number_of};
 ghost use Rattle.snapshot_node.specs.Asking.{IsAt};
 ghost use Rattle.snapshot_node.specs.Validating.{AreAt, AreOwn, IsAtStake, ruled, at};
 ghost use Rattle.snapshot_node.specs.Pivots.{IsLeast, IsMiddle, IsMiddleAmong, IsFirst, ComesBefore, ComesAfter, ComesIn, ComesInAmong, break_by};
@@ -13,8 +13,8 @@ ghost use Rattle.snapshot_node.specs.Pivots.{IsLeast, IsMiddle, IsMiddleAmong, I
 use crate::neighbours::{is_at_stake, lesser};
 use crate::validation::{Own, Validation};
 use access_book::Access;
-use teb_names::Txn;
 use teb_rules::Broken;
+use teb_rules::names::Txn;
 
 impl<'a> Validation<'a> {
     /// Returns the least pivot among those at stake.

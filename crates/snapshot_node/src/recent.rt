@@ -1,14 +1,14 @@
 //! The transactions, of some, whose batches may overlap that of one.
 
 ghost use Rattle.std.specs.Prelude.{◌≡◌};
-ghost use Rattle.teb_history.specs.Ascending.{IsAscendingBy};
-ghost use Rattle.teb_history.specs.Live.{number_of};
+ghost use Rattle.teb_rules.specs.history.Ascending.{IsAscendingBy};
+ghost use Rattle.teb_rules.specs.history.Live.{number_of};
 ghost use Rattle.batch_book.specs.Histories.{ClosedBelow};
 ghost use Rattle.snapshot_node.specs.Asking.{AreLate, AreThere, IsAt, there};
 
 use crate::asked::Asked;
 use crate::numbered::from_number;
-use teb_names::Txn;
+use teb_rules::names::Txn;
 
 /// Questions to a control, a transaction t, and t's horizon there: each transaction numbered below it was of a batch that closed before
 /// t's started.

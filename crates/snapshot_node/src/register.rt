@@ -1,8 +1,8 @@
 //! What a snapshot control keeps of a history: the batches of its node, and the accesses there.
 
 ghost use Rattle.std.specs.Prelude.{◌≡◌, ◌<◌, ◌≤◌, ◌+◌, [], List, drop, length, IfOk, OnOk};
-ghost use Rattle.teb_names.specs.declared.ControlKind.TheVariants.{Snapshot as IsSnapshot};
-ghost use Rattle.teb_history.specs.declared.Event.{Event};
+ghost use Rattle.teb_rules.specs.declared.names.ControlKind.TheVariants.{Snapshot as IsSnapshot};
+ghost use Rattle.teb_rules.specs.declared.history.Event.{Event};
 ghost use Rattle.teb_rules.specs.Setup.{Setup};
 ghost use Rattle.teb_rules.specs.Tree.{row};
 ghost use Rattle.phase_api.specs.FactsView.{setup_of, events_of};
@@ -13,8 +13,8 @@ use access_book::AccessBook;
 use batch_book::Batches;
 use phase_api::Facts;
 use std::alloc::{AllocError, Global};
-use teb_history::Event;
-use teb_names::{Node, Txn};
+use teb_rules::history::Event;
+use teb_rules::names::{Node, Txn};
 
 /// The batches of a snapshot node, and the readers and writers of each cell.
 #[derive(Drop)]

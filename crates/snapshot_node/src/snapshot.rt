@@ -1,8 +1,8 @@
 //! The control of a snapshot node.
 
 ghost use Rattle.std.specs.Prelude.{◌≡◌, [], IfOk};
-ghost use Rattle.teb_names.specs.declared.ControlKind.TheVariants.{Snapshot as IsSnapshot};
-ghost use Rattle.teb_history.specs.declared.Event.{Event};
+ghost use Rattle.teb_rules.specs.declared.names.ControlKind.TheVariants.{Snapshot as IsSnapshot};
+ghost use Rattle.teb_rules.specs.declared.history.Event.{Event};
 ghost use Rattle.teb_rules.specs.Tree.{row};
 ghost use Rattle.phase_api.specs.FactsView.{setup_of, events_of};
 ghost use Rattle.snapshot_node.specs.Standing.{committed_in};
@@ -17,10 +17,10 @@ use access_conflicts::wait_for;
 use batch_book::Batches;
 use phase_api::{Control, Facts};
 use std::alloc::{AllocError, Global};
-use teb_history::Event;
-use teb_names::{Cell, Node, Spot, Txn};
+use teb_rules::history::Event;
+use teb_rules::names::{Cell, Node, Spot, Txn};
+use teb_rules::vectors::make_wide_room;
 use teb_rules::{Broken, Verdict};
-use vec_room::make_wide_room;
 use version_chain::Chains;
 
 /// The snapshot control of a node.

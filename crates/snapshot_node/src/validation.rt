@@ -1,9 +1,9 @@
 //! A transaction that validates at a snapshot control, and its own edges.
 
 ghost use Rattle.std.specs.Prelude.{IsTrue};
-ghost use Rattle.teb_history.specs.Phases.{unfinished};
+ghost use Rattle.teb_rules.specs.history.Phases.{unfinished};
 ghost use Rattle.teb_rules.specs.Accepted.{IsSound};
-ghost use Rattle.teb_laws.specs.Lawful.{Lawful};
+ghost use Rattle.teb_rules.specs.laws.Lawful.{Lawful};
 ghost use Rattle.phase_api.specs.FactsView.{setup_of, events_of};
 ghost use Rattle.phase_api.specs.Calls.{IsHere};
 ghost use Rattle.snapshot_node.specs.Marks.{AreMarked};
@@ -11,7 +11,7 @@ ghost use Rattle.snapshot_node.specs.Props.{kept};
 
 use crate::asked::Asked;
 use crate::marks::Mark;
-use teb_names::Txn;
+use teb_rules::names::Txn;
 
 /// The control, with its marks of batches and transactions, is asked of a transaction that is unfinished there, and the history
 /// is lawful.

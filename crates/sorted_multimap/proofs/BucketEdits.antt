@@ -6,9 +6,9 @@ use Rattle.std.specs.Cmp.{IsTotalOrder}
 use Rattle.std.specs.Ordering.{is_eq}
 use Rattle.std.specs.List.{insert, remove, remove_range}
 use Rattle.std.proofs.lemmas.Bool.{eq-eqb, ne_eqb}
-use Rattle.teb_history.specs.Ascending.{IsAscendingBy, place_of, put_by}
-use Rattle.teb_history.proofs.Comparisons.{ltb_tells}
-use Rattle.teb_history.proofs.AscendingLists.{place_in, gap_in, put-set, put-insert}
+use Rattle.teb_rules.specs.history.Ascending.{IsAscendingBy, place_of, put_by}
+use Rattle.teb_rules.proofs.lemmas.history.Comparisons.{ltb_tells}
+use Rattle.teb_rules.proofs.lemmas.history.AscendingLists.{place_in, gap_in, put-set, put-insert}
 use Rattle.sorted_multimap.specs.declared.bucket.Bucket.{Bucket}
 use Rattle.sorted_multimap.specs.Buckets.{values_beside, bucket_values, Ascends, lows, tops, IsSorted, IsEdited}
 use Rattle.sorted_multimap.specs.Places.{IsFound, IsMissing}

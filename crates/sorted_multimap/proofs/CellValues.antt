@@ -2,10 +2,10 @@
 use Rattle.std.proofs.Common.{◌≡◌, ℕ, Bool, true, false, cond, List, [], ◌∷◌, ◌++◌, Some, None, refl, sym, ◌∙◌, ap}
 use Rattle.std.specs.List.{remove}
 use Rattle.std.specs.Ordering.{is_eq}
-use Rattle.teb_names.specs.declared.Cell.{Cell}
-use Rattle.teb_names.specs.Cells.{same_cell, cell_cmp}
-use Rattle.teb_names.proofs.CellOrder.{same_cell-cell_cmp}
-use Rattle.teb_names.proofs.SameCells.{same_cell-true}
+use Rattle.teb_rules.specs.declared.names.Cell.{Cell}
+use Rattle.teb_rules.specs.names.Cells.{same_cell, cell_cmp}
+use Rattle.teb_rules.proofs.lemmas.names.CellOrder.{same_cell-cell_cmp}
+use Rattle.teb_rules.proofs.lemmas.names.SameCells.{same_cell-true}
 use Rattle.sorted_multimap.specs.LastMatches.{IsLastPlace, without_last}
 use Rattle.sorted_multimap.proofs.TakenMatches.{last_there, last_nowhere}
 

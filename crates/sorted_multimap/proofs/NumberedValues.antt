@@ -3,9 +3,9 @@ use Rattle.std.proofs.Common.{◌≡◌, ◌≢◌, ◌⊎◌, ℕ, suc, ◌<◌
 use Rattle.std.specs.List.{remove}
 use Rattle.std.proofs.lemmas.Bool.{ne_eqb}
 use Rattle.std.proofs.lemmas.Bool.Decides.{eqb_tells}
-use Rattle.teb_history.specs.Ascending.{AllAbove, IsAscendingBy, next_place, place_of}
-use Rattle.teb_history.proofs.Comparisons.{ltb_tells}
-use Rattle.teb_history.proofs.AscendingLists.{above-mono}
+use Rattle.teb_rules.specs.history.Ascending.{AllAbove, IsAscendingBy, next_place, place_of}
+use Rattle.teb_rules.proofs.lemmas.history.Comparisons.{ltb_tells}
+use Rattle.teb_rules.proofs.lemmas.history.AscendingLists.{above-mono}
 
 module _ {V : Type 0} (key : V → ℕ) (n : ℕ) where
   abbrev pub without : List V → List V

@@ -3,7 +3,7 @@ use Rattle.std.proofs.Common.{◌≡◌, ℕ, zero, suc, ◌+◌, ◌-◌, ◌<�
 use Rattle.std.specs.List.{list_any, count_by, remove}
 use Rattle.std.proofs.lemmas.List.Sums.{sum_by-cons, sum_by_push, length-filter}
 use Rattle.sorted_multimap.specs.LastMatches.{IsLastPlace, without_last, without_lasts}
-use Rattle.teb_names.proofs.Bools.{or_true}
+use Rattle.teb_rules.proofs.lemmas.names.Bools.{or_true}
 
 neither : (b c : Bool) → (b || c) ≡ false → (b ≡ false) × (c ≡ false)
 neither true c h = absurd (cc)

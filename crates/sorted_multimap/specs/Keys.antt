@@ -4,10 +4,10 @@ use Rattle.std.proofs.Common.{◌∙◌}
 use Rattle.std.specs.Ordering.{nat_cmp, is_eq}
 use Rattle.std.specs.declared.cmp.Ordering.{Ordering}
 use Rattle.std.proofs.lemmas.Bool.{and_parts, eqb-true}
-use Rattle.teb_names.specs.declared.Cell.{Cell}
-use Rattle.teb_names.specs.declared.Txn.{Txn}
-use Rattle.teb_names.specs.Cells.{cell_cmp}
-use Rattle.teb_names.proofs.CellOrder.{same_cell-cell_cmp}
+use Rattle.teb_rules.specs.declared.names.Cell.{Cell}
+use Rattle.teb_rules.specs.declared.names.Txn.{Txn}
+use Rattle.teb_rules.specs.names.Cells.{cell_cmp}
+use Rattle.teb_rules.proofs.lemmas.names.CellOrder.{same_cell-cell_cmp}
 
 abbrev pub txn_cmp : Txn → Txn → Ordering
 txn_cmp t u = nat_cmp t.0 u.0

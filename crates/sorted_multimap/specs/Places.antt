@@ -1,7 +1,7 @@
 -- Places in a bucket: what a search by number among the values of a key finds.
 use Rattle.std.specs.Prelude.{◌≡◌, ℕ, ◌-◌, ◌<◌, ◌≤◌, Ok, Err}
 use Rattle.std.specs.declared.cmp.Ordering.{Ordering}
-use Rattle.teb_history.specs.Ascending.{place_of}
+use Rattle.teb_rules.specs.history.Ascending.{place_of}
 use Rattle.sorted_multimap.specs.declared.bucket.Bucket.{Bucket}
 use Rattle.sorted_multimap.specs.Buckets.{bucket_values, lows, tops}
 

@@ -8,7 +8,7 @@ ghost use Rattle.sorted_multimap.specs.Buckets.{bucket_values, IsSorted, HasRoom
 
 use std::alloc::{AllocError, Global};
 use std::cmp::Ordering;
-use vec_room::{make_room, put_in};
+use teb_rules::vectors::{make_room, put_in};
 
 /// A bucket makes room for this many more items than are asked for, so that the first of them do not make it move.
 const SPARE: usize = 16;

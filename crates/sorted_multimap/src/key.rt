@@ -6,7 +6,7 @@ ghost use Rattle.sorted_multimap.specs.Keys.{cell_spread, txn_spread, cell_agree
 ghost use Rattle.std.proofs.Common.{arith};
 ghost use Rattle.std.proofs.lemmas.Bool.Decides.{nat_tests};
 
-use teb_names::{Cell, Txn};
+use teb_rules::names::{Cell, Txn};
 
 /// A key of a multimap. Its spread is a number that determines the bucket of its values. If the spreads of the keys are even, so are
 /// the buckets.

@@ -1,10 +1,10 @@
 //! Numbers of values.
 
 ghost use Rattle.std.specs.Prelude.{◌≡◌, ℕ};
-ghost use Rattle.teb_history.specs.Ascending.{IsAscendingBy, place_of};
-ghost use Rattle.teb_history.specs.Live.{number_of};
+ghost use Rattle.teb_rules.specs.history.Ascending.{IsAscendingBy, place_of};
+ghost use Rattle.teb_rules.specs.history.Live.{number_of};
 
-use teb_names::Txn;
+use teb_rules::names::Txn;
 
 /// A value with a number. The values of a key may ascend by it.
 pub trait Numbered: Copy {

@@ -3,11 +3,11 @@ use Rattle.std.proofs.Common.{◌≡◌, ℕ, zero, suc, ◌+◌, ◌-◌, ◌<�
 use Rattle.std.proofs.lemmas.List.{take_rest, drop_more}
 use Rattle.std.proofs.lemmas.List.Folds.{list_any_more}
 use Rattle.std.specs.List.{list_any}
-use Rattle.teb_names.specs.declared.Kind.{Kind}
-use Rattle.teb_names.specs.declared.Table.{Table}
+use Rattle.teb_rules.specs.declared.names.Kind.{Kind}
+use Rattle.teb_rules.specs.declared.names.Table.{Table}
 use Rattle.teb_rules.specs.Setup.{among, above, above_steps, above_profiles}
 use Rattle.teb_rules.specs.Steps.{leads, arrow}
-use Rattle.txn_profile.specs.Steps.{numbers_of}
+use Rattle.store_setup.specs.profile.Steps.{numbers_of}
 use Rattle.static_steps.specs.Profiles.{profiles_of}
 use Rattle.static_steps.specs.Squares.{is_in, leads_in}
 use Rattle.static_steps.proofs.Bits.{none_in}

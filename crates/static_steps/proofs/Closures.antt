@@ -2,7 +2,7 @@
 use Rattle.std.proofs.Common.{◌≡◌, ℕ, zero, suc, ◌+◌, ◌<◌, ◌≤◌, Bool, true, false, ◌&&◌, ◌||◌, List, length, get_or, ◌≢◌, set, refl, sym, ◌∙◌, inl, inr, arith, get_or-set_same, get_or-set_other}
 use Rattle.std.proofs.lemmas.Bool.{cases_eq, cases_lt}
 use Rattle.teb_rules.specs.Steps.{arrow, reaches}
-use Rattle.teb_names.proofs.Bools.{or_false}
+use Rattle.teb_rules.proofs.lemmas.names.Bools.{or_false}
 use Rattle.static_steps.specs.Squares.{is_in, leads_in, closure}
 use Rattle.static_steps.proofs.Square.{no_row}
 

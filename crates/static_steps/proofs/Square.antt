@@ -4,7 +4,7 @@ use Rattle.std.proofs.lemmas.Bool.{cases_eq}
 use Rattle.std.proofs.lemmas.List.{get_or_past}
 use Rattle.static_steps.specs.Squares.{is_in, leads_in}
 use Rattle.static_steps.proofs.Bits.{none_in}
-use Rattle.teb_names.proofs.Bools.{or_false}
+use Rattle.teb_rules.proofs.lemmas.names.Bools.{or_false}
 
 -- there are no arrows after the last row
 pub no_row : (rows : List ℕ) (a b : ℕ) → length rows ≤ a → leads_in rows a b ≡ false

@@ -1,6 +1,6 @@
 -- The profiles of some of the types.
 use Rattle.std.specs.Prelude.{ℕ, List, [], get_or, map}
-use Rattle.teb_names.specs.declared.Kind.{Kind}
+use Rattle.teb_rules.specs.declared.names.Kind.{Kind}
 
 -- of these types, in order
 abbrev pub profiles_of : List (List (List ℕ)) → List Kind → List (List (List ℕ))

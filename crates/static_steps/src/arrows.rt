@@ -4,14 +4,14 @@ ghost use Rattle.std.specs.Prelude.{◌≡◌, ◌<◌, ◌≤◌, ◌&&◌, ◌
 ghost use Rattle.std.specs.List.{All, list_any};
 ghost use Rattle.teb_rules.specs.Setup.{among, above, above_steps, above_profiles};
 ghost use Rattle.teb_rules.specs.Steps.{leads, arrow};
-ghost use Rattle.txn_profile.specs.Steps.{numbers_of};
+ghost use Rattle.store_setup.specs.profile.Steps.{numbers_of};
 ghost use Rattle.static_steps.specs.Squares.{is_in, leads_in};
 ghost use Rattle.static_steps.specs.Profiles.{profiles_of};
 
 use crate::table_set::{EMPTY, TableSet, set_of, union};
 use std::alloc::{AllocError, Global};
-use teb_names::{Kind, Table};
-use txn_profile::Profile;
+use store_setup::profile::Profile;
+use teb_rules::names::{Kind, Table};
 
 /// Returns for each table below `tables` the tables that some profile of `under` leads to from it.
 pub fn arrows(

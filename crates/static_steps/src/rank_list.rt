@@ -3,7 +3,7 @@
 ghost use Rattle.std.specs.Prelude.{◌≡◌, ◌<◌, length, slice_index};
 
 use std::marker::Model;
-use teb_names::Table;
+use teb_rules::names::Table;
 
 /// The rank of each table. Contracts see the list of ranks, by table.
 #[derive(Drop)]

@@ -11,8 +11,8 @@ use crate::arrows::arrows;
 use crate::chains::longest_chains;
 use crate::closure::close;
 use std::alloc::{AllocError, Global};
-use teb_names::Kind;
-use txn_profile::Profile;
+use store_setup::profile::Profile;
+use teb_rules::names::Kind;
 
 /// Returns the ranks of the tables below `tables`, over the profiles of the types in `under`.
 ///

@@ -2,10 +2,10 @@
 
 ghost use Rattle.std.specs.Prelude.{◌≡◌, ◌<◌, ◌≤◌, ◌||◌, ℕ, eqb};
 ghost use Rattle.teb_rules.specs.Setup.{among, above};
-ghost use Rattle.txn_profile.specs.Steps.{numbers_of};
+ghost use Rattle.store_setup.specs.profile.Steps.{numbers_of};
 ghost use Rattle.static_steps.specs.Squares.{is_in};
 
-use teb_names::Table;
+use teb_rules::names::Table;
 
 /// Bit a is set if table a is in the set.
 pub type TableSet = u64;

@@ -2,10 +2,10 @@
 
 ghost use Rattle.std.specs.Prelude.{◌≡◌, ◌≤◌, drop, length};
 ghost use Rattle.teb_rules.specs.Setup.{above, above_steps, above_profiles};
-ghost use Rattle.txn_profile.specs.Steps.{numbers_of};
+ghost use Rattle.store_setup.specs.profile.Steps.{numbers_of};
 
-use teb_names::Table;
-use txn_profile::Profile;
+use store_setup::profile::Profile;
+use teb_rules::names::Table;
 
 /// Returns one more than the greatest table of the profiles, 0 to 64: the tables that have ranks are below it.
 pub fn ranked_tables(profiles: &[Profile]) -> u8

@@ -1,7 +1,7 @@
 -- The life of a shared store continues as one serial run.
 use Rattle.std.proofs.Common.{◌≡◌, ◌∙◌, ◌++◌, ◌∷◌, [], Some, List, sym, ap, refl, subst, append-nil, append_assoc}
 use mathlib.Core.Logic.{∥∥₁_map}
-use Rattle.teb_names.specs.declared.Cell.{Cell}
+use Rattle.teb_rules.specs.declared.names.Cell.{Cell}
 use Rattle.teb_rules.specs.Accepted.{IsSound}
 use Rattle.teb_rules.specs.Answer.{answer}
 use Rattle.teb_rules.specs.Replay.{Values}

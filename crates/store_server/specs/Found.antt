@@ -1,11 +1,11 @@
 -- What an opened store begins with.
 use Rattle.std.specs.Prelude.{◌≡◌, ◌≤◌, ℕ, List, [], Ok}
-use Rattle.teb_names.specs.declared.Cell.{Cell}
-use Rattle.teb_names.specs.Rows.{row_of}
-use Rattle.teb_history.specs.declared.Event.{Event}
+use Rattle.teb_rules.specs.declared.names.Cell.{Cell}
+use Rattle.teb_rules.specs.names.Rows.{row_of}
+use Rattle.teb_rules.specs.declared.history.Event.{Event}
 use Rattle.teb_rules.specs.Accepted.{IsSound}
 use Rattle.teb_rules.specs.Setup.{Store}
-use Rattle.teb_laws.specs.Lawful.{Lawful}
+use Rattle.teb_rules.specs.laws.Lawful.{Lawful}
 use Rattle.store_setup.specs.SetupView.{SetupView}
 use Rattle.engine_core.specs.EngineModel.{EngineModel}
 use Rattle.commit_laws.specs.Commits.{commit_count, rows_after}

@@ -2,7 +2,7 @@
 
 ghost use Rattle.std.specs.Prelude.{◌≡◌, IfOk, Ok};
 ghost use Rattle.std.proofs.Props.{props};
-ghost use Rattle.teb_history.specs.Phases.{begun_count};
+ghost use Rattle.teb_rules.specs.history.Phases.{begun_count};
 ghost use Rattle.store_setup.specs.SetupView.{setup_view};
 ghost use Rattle.store_setup.specs.Sound.{HasNames, IsNamed, IsWhole};
 ghost use Rattle.tree_toml.specs.SetupText.{setup_of_text};
@@ -21,8 +21,8 @@ use shared_store::{EpochServer, Fault, Obstacle};
 use std::alloc::{AllocError, Global};
 use std::marker::PhantomData;
 use store_setup::Setup;
-use teb_history::History;
-use teb_names::{MOST_TXNS, Reply, Request, SESSIONS, Session};
+use teb_rules::history::History;
+use teb_rules::names::{MOST_TXNS, Reply, Request, SESSIONS, Session};
 use tree_toml::read_tree;
 
 /// An epoch is to end once less than one part in this many is left of the bytes that it had at its beginning.

@@ -1,7 +1,7 @@
 -- What contracts see of a setup.
 use Rattle.std.specs.Prelude.{ℕ, ℤ, List}
-use Rattle.teb_names.specs.declared.Cell.{Cell}
-use Rattle.cc_tree.specs.Grown.{Grown}
+use Rattle.teb_rules.specs.declared.names.Cell.{Cell}
+use Rattle.store_setup.specs.tree.Grown.{Grown}
 use Rattle.store_setup.specs.declared.Setup.{Setup}
 
 -- the names of tables, types and nodes; for each type its steps, each a list of numbers of tables; the tree; the starting rows, which

@@ -1,6 +1,6 @@
 -- The store of the rules that a setup makes, and its names.
 use Rattle.std.specs.Prelude.{length}
-use Rattle.teb_names.specs.declared.naming.NameBook.{NameBook}
+use Rattle.teb_rules.specs.declared.names.naming.NameBook.{NameBook}
 use Rattle.teb_rules.specs.Setup.{Store}
 use Rattle.store_setup.specs.declared.Setup.{Setup}
 use Rattle.store_setup.specs.SetupView.{SetupView}

@@ -12,9 +12,12 @@
 //! **Not claimed**: that a [`Setup`] is whole. Its fields are public, so each crate that makes an engine asks for `IsWhole`.
 #![tactic(auto)]
 
-use cc_tree::Tree;
-use teb_names::{NameBook, Rows};
-use txn_profile::Profile;
+pub mod profile;
+pub mod tree;
+
+use profile::Profile;
+use teb_rules::names::{NameBook, Rows};
+use tree::Tree;
 
 /// What a store is set up with: the names, for each type its profile, the tree of controls, and the starting rows.
 #[derive(Drop)]

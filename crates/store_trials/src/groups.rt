@@ -7,7 +7,7 @@ use epoch_store::AskError;
 use std::alloc::Global;
 use std::ops::RangeInclusive;
 use std::test::Fail;
-use teb_names::{Kind, Reply, Request, Session, Spot};
+use teb_rules::names::{Kind, Reply, Request, Session, Spot};
 use version_chain::PlainChains;
 
 /// How many bytes each disk can hold.

@@ -5,7 +5,7 @@ use engine_store::EngineStore;
 use epoch_store::AskError;
 use std::alloc::Global;
 use std::test::Fail;
-use teb_names::{Cell, Kind, Reply, Request, Session, Spot, Table};
+use teb_rules::names::{Cell, Kind, Reply, Request, Session, Spot, Table};
 use tree_toml::read_tree;
 use version_chain::PlainChains;
 

@@ -1,11 +1,11 @@
 -- What it is that an order serializes a history.
 use Rattle.std.specs.Prelude.{◌≡◌, ◌⊎◌, ◌↔◌, ◌≢◌, ℕ, ◌<◌, ◌&&◌, List, [], ◌∷◌, filter, Option, Some, None, ℤ, IsTrue}
-use Rattle.teb_names.specs.declared.Cell.{Cell}
-use Rattle.teb_history.specs.declared.Event.{Event}
-use Rattle.teb_history.specs.Phases.{txns, done_at, committed}
-use Rattle.teb_history.specs.Accesses.{wrote, read_from}
+use Rattle.teb_rules.specs.declared.names.Cell.{Cell}
+use Rattle.teb_rules.specs.declared.history.Event.{Event}
+use Rattle.teb_rules.specs.history.Phases.{txns, done_at, committed}
+use Rattle.teb_rules.specs.history.Accesses.{wrote, read_from}
 use Rattle.teb_rules.specs.Setup.{Store}
-use Rattle.teb_names.specs.Rows.{row_of}
+use Rattle.teb_rules.specs.names.Rows.{row_of}
 use Rattle.teb_rules.specs.Tree.{meets}
 use Rattle.teb_rules.specs.Versions.{latest, value_left}
 use Rattle.teb_rules.specs.Ranks.{rank}

@@ -1,8 +1,8 @@
 -- What a store is set up with: the profiles of its types and the tree of controls, which the controls go by, and its tables and starting rows.
 use Rattle.std.specs.Prelude.{ℕ, suc, max, Bool, cond, eqb, List, [], ◌∷◌, get_or, Option, Some, None, ℤ}
 use Rattle.std.specs.List.{list_any}
-use Rattle.teb_names.specs.declared.Cell.{Cell}
-use Rattle.teb_names.specs.declared.ControlKind.{ControlKind}
+use Rattle.teb_rules.specs.declared.names.Cell.{Cell}
+use Rattle.teb_rules.specs.declared.names.ControlKind.{ControlKind}
 
 -- a node of the tree: the number of a node is its place in the list of nodes. A leaf has types, and takes one part of
 -- their instances, of `parts` parts

@@ -1,14 +1,14 @@
 -- The order of versions, which of them a transaction sees, and what it reads.
 use Rattle.std.specs.Prelude.{ℕ, zero, suc, Bool, true, false, cond, not, ◌&&◌, ◌||◌, eqb, ltb, List, filter, find, Option, None, unwrap_or, ℤ}
 use Rattle.std.specs.List.{list_all}
-use Rattle.teb_names.specs.declared.Cell.{Cell}
-use Rattle.teb_names.specs.declared.ControlKind.{ControlKind}
-use Rattle.teb_names.specs.declared.ControlKind.TheVariants.{Locks, Pipeline, Timestamp, Snapshot}
-use Rattle.teb_history.specs.declared.Event.{Event}
-use Rattle.teb_history.specs.Phases.{txns, committed, aborted}
-use Rattle.teb_history.specs.Accesses.{put_at, wrote, last_put}
+use Rattle.teb_rules.specs.declared.names.Cell.{Cell}
+use Rattle.teb_rules.specs.declared.names.ControlKind.{ControlKind}
+use Rattle.teb_rules.specs.declared.names.ControlKind.TheVariants.{Locks, Pipeline, Timestamp, Snapshot}
+use Rattle.teb_rules.specs.declared.history.Event.{Event}
+use Rattle.teb_rules.specs.history.Phases.{txns, committed, aborted}
+use Rattle.teb_rules.specs.history.Accesses.{put_at, wrote, last_put}
 use Rattle.teb_rules.specs.Setup.{Setup}
-use Rattle.teb_names.specs.Rows.{row_of}
+use Rattle.teb_rules.specs.names.Rows.{row_of}
 use Rattle.teb_rules.specs.Tree.{row, is_timestamp, meet}
 use Rattle.teb_rules.specs.Steps.{passed, rank_of_table}
 use Rattle.teb_rules.specs.Batches.{start, close}

@@ -10,7 +10,7 @@ use Rattle.teb_io.specs.declared.source.ReadError.TheVariants as read
 use Rattle.script_text.specs.declared.input.TheConstants.{MOST_BYTES}
 use Rattle.input_reader.specs.Reads.{read_error}
 use Rattle.std.specs.declared.alloc.AllocError.{AllocError}
-use Rattle.teb_history.specs.declared.Event.{Event}
+use Rattle.teb_rules.specs.declared.history.Event.{Event}
 use Rattle.store_setup.specs.SetupView.{SetupView}
 use Rattle.command_output.specs.Shown.{Shown, events_of}
 use Rattle.input_reader.specs.declared.error.InputError.{InputError}
@@ -19,7 +19,7 @@ use Rattle.input_reader.specs.Inputs.{input_of}
 use Rattle.input_reader.specs.Readings.{AreOf, AreReadFrom, IsReadFrom}
 use Rattle.input_reader.specs.Refusals.{ShowsInput, IsSetUp, refusal}
 use Rattle.input_reader.specs.Tasks.{Task}
-use Rattle.input_runner.specs.Runs.{IsSerialized}
+use Rattle.script_runner.specs.Runs.{IsSerialized}
 use Rattle.audit_check.specs.Audit.{IsAudited}
 use Rattle.audit_runner.specs.Verdicts.{verdict}
 use Rattle.hall_runner.specs.Outcomes.{IsServedBy, history_in}

@@ -4,7 +4,7 @@ use Rattle.std.specs.Io.KnownBytes.{Keeps}
 use Rattle.command_output.specs.Shown.{Shown, events_of}
 use Rattle.output_writer.specs.Endings.{IsWritten}
 use Rattle.input_reader.specs.Readings.{AreOf}
-use Rattle.input_runner.specs.Runs.{IsSerialized}
+use Rattle.script_runner.specs.Runs.{IsSerialized}
 use Rattle.hall_runner.specs.declared.served.Served.{Served}
 use Rattle.hall_runner.specs.declared.served.Served.TheVariants.{Through, Spent}
 use Rattle.command_words.specs.Commands.{reads}

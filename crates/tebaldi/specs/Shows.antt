@@ -7,7 +7,7 @@ use Rattle.input_reader.specs.Refusals.{ShowsInput, IsSetUp, refusal}
 use Rattle.input_reader.specs.Inputs.{input_of}
 use Rattle.input_reader.specs.declared.error.InputError.TheVariants.{TooLong}
 use Rattle.audit_runner.specs.Verdicts.{audited}
-use Rattle.input_runner.specs.Runs.{IsReplay, AreTurns, IsReport, IsRun}
+use Rattle.script_runner.specs.Runs.{IsReplay, AreTurns, IsReport, IsRun}
 use Rattle.crash_runner.specs.Crashes.{IsCrash}
 use Rattle.hall_runner.specs.Outcomes.{IsServedAs}
 use Rattle.phase_runner.specs.Runs.{ArePhases}

@@ -2,7 +2,7 @@
 
 use chain_pool::PooledChains;
 use session_server::{Entries, Pass};
-use teb_history::History;
+use teb_rules::history::History;
 
 /// How the program ended, with all that its run leaves.
 #[derive(Drop)]

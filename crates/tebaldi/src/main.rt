@@ -9,7 +9,7 @@
 //!
 //! | Words | Run by |
 //! |---|---|
-//! | `replay`, `turns` | `input_runner` |
+//! | `replay`, `turns` | `script_runner` |
 //! | `load NUMBER SIZE` | `shop_load`, without an input |
 //! | `threads N`, `pool N` | `hall_runner` |
 //! | `crash K` | `crash_runner` |
@@ -42,7 +42,7 @@ use session_tasks::Gate;
 use std::env;
 use std::process::ExitCode;
 use teb_io::{StdSink, StdSource};
-use teb_names::Session;
+use teb_rules::names::Session;
 use top::run_tebaldi;
 use writing::silent;
 

@@ -13,8 +13,8 @@ use command_output::status::{OUT_OF_MEMORY, PASS_SPENT};
 use hall_runner::Served;
 use output_writer::WrittenOutput;
 use std::alloc::AllocError;
-use teb_history::History;
 use teb_io::Sink;
+use teb_rules::history::History;
 
 /// Returns the end of a command that one thread ran.
 fn alone(output: WrittenOutput) -> Ended

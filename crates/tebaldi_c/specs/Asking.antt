@@ -1,6 +1,6 @@
 -- What a call does to the store behind a handle.
 use Rattle.std.specs.Prelude.{◌≡◌, ◌⊎◌, ◌<◌, ℕ, true, Option, Some, None}
-use Rattle.teb_names.specs.declared.Request.{Request}
+use Rattle.teb_rules.specs.declared.names.Request.{Request}
 use Rattle.teb_rules.specs.Answer.{answer}
 use Rattle.engine_core.specs.EngineModel.{EngineModel}
 use Rattle.c_forms.specs.declared.replies.ReplyForm.{ReplyForm}

@@ -1,6 +1,6 @@
 -- Final rows as C has them.
 use Rattle.std.specs.Prelude.{ℕ, ℤ, List, Some}
-use Rattle.teb_names.specs.declared.Cell.{Cell}
+use Rattle.teb_rules.specs.declared.names.Cell.{Cell}
 use Rattle.engine_core.specs.EngineModel.{EngineModel}
 use Rattle.serial_order.specs.Tables.{IsFinalRows}
 use Rattle.c_forms.specs.declared.rows.RowForm.{RowForm}

@@ -1,7 +1,7 @@
 -- Why a store in a file does not answer, and what is left of it.
 use Rattle.std.specs.Prelude.{◌≡◌, ◌<◌, ◌-◌, ◌||◌, ℕ, true, Option, Some, None}
-use Rattle.teb_names.specs.declared.Request.{Request}
-use Rattle.teb_names.specs.declared.Reply.TheVariants.{Committed}
+use Rattle.teb_rules.specs.declared.names.Request.{Request}
+use Rattle.teb_rules.specs.declared.names.Reply.TheVariants.{Committed}
 use Rattle.teb_rules.specs.Answer.{answer}
 use Rattle.engine_core.specs.EngineModel.{EngineModel}
 use Rattle.commit_journal.specs.Kept.{IsFull}

@@ -1,6 +1,6 @@
 -- The store and the names of a setup.
 use Rattle.std.specs.Prelude.{◌≡◌}
-use Rattle.teb_names.specs.declared.naming.NameBook.{NameBook}
+use Rattle.teb_rules.specs.declared.names.naming.NameBook.{NameBook}
 use Rattle.teb_rules.specs.Setup.{Store}
 use Rattle.store_setup.specs.SetupView.{SetupView}
 use Rattle.store_setup.specs.Sound.{IsWhole, IsNamed, HasNames}

@@ -18,7 +18,7 @@ use chain_pool::PooledChains;
 use engine_core::Engine;
 use engine_store::AskError;
 use std::alloc::{AllocError, Global};
-use teb_names::{Request, Session};
+use teb_rules::names::{Request, Session};
 
 /// Answers a request of a session. A session that is not 1 to 32 is answered with a refusal, and the status is `OK`. The calls that put a
 /// commit into a store's file wait then, and the caller performs them before it tells of the commit.

@@ -22,7 +22,7 @@ use engine_store::{AskError, EngineStore, NextError};
 use std::alloc::Global;
 use std::marker::Model;
 use store_setup::Setup;
-use teb_names::{Reply, Request, Session};
+use teb_rules::names::{Reply, Request, Session};
 
 /// How many calls the disk in memory notes before it forgets them: those of the commits of one epoch.
 const MOST_CALLS: usize = 32_768;

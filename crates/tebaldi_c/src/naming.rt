@@ -1,7 +1,7 @@
 //! Names and their numbers.
 
 ghost use Rattle.std.specs.Prelude.{◌≡◌, ◌≢◌, ◌↔◌, ◌≤◌, Some, None, IsNone, length, slice_get};
-ghost use Rattle.teb_names.specs.Names.{number_of};
+ghost use Rattle.teb_rules.specs.names.Names.{number_of};
 ghost use Rattle.tebaldi_c.specs.Asking.{IfOpen};
 ghost use Rattle.tebaldi_c.specs.Buffers.{IsTold};
 ghost use Rattle.tebaldi_c.specs.Naming.{names_in};
@@ -10,7 +10,7 @@ use crate::buffers::lay_over;
 use crate::status::{NO_SUCH, NOT_OPEN, OK};
 use crate::store::StoreHandle;
 use std::alloc::Global;
-use teb_names::{NameBook, Names};
+use teb_rules::names::{NameBook, Names};
 
 /// Finds the number of a name among the tables (`list` 0), the types (1) or the nodes (any other).
 ///

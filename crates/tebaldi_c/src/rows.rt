@@ -1,7 +1,7 @@
 //! What a store comes to: the serial order, and the final tables.
 
 ghost use Rattle.std.specs.Prelude.{◌≡◌, ◌≢◌, ◌↔◌, Some, IsNone, IfOk, List, ℤ};
-ghost use Rattle.teb_names.specs.declared.Cell.{Cell as TheCell};
+ghost use Rattle.teb_rules.specs.declared.names.Cell.{Cell as TheCell};
 ghost use Rattle.teb_rules.specs.Ranks.{serial_order};
 ghost use Rattle.serial_order.specs.Commits.{txn_numbers};
 ghost use Rattle.serial_order.specs.Tables.{IsFinalRows};
@@ -18,7 +18,7 @@ use chain_pool::PooledChains;
 use engine_core::Engine;
 use serial_order::{order, tables};
 use std::alloc::{AllocError, Global};
-use teb_names::{Cell, Txn};
+use teb_rules::names::{Cell, Txn};
 
 /// Copies as many of the committed transactions, in the serial order, as fit to `out`; `len` is how many there are.
 ///

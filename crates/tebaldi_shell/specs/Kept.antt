@@ -1,6 +1,6 @@
 -- What the shell sees of a store on a disk, and what a crash leaves of it.
 use Rattle.std.specs.Prelude.{◌≡◌, ◌⊎◌, ℕ, ◌-◌, List}
-use Rattle.teb_history.specs.declared.Event.{Event}
+use Rattle.teb_rules.specs.declared.history.Event.{Event}
 use Rattle.teb_rules.specs.Setup.{Store}
 use Rattle.engine_core.specs.EngineModel.{EngineModel}
 use Rattle.epoch_journal.specs.Layout.{half_size}

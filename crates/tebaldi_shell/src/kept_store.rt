@@ -13,8 +13,8 @@ use shell_runner::{ShellStore, TurnError};
 use std::alloc::{AllocError, Global};
 use std::marker::Model;
 use store_setup::Setup;
-use teb_history::History;
-use teb_names::{Cell, NameBook, Request, Session, Txn};
+use teb_rules::history::History;
+use teb_rules::names::{Cell, NameBook, Request, Session, Txn};
 
 /// A store on a disk. Contracts see what they see of an `EngineStore`.
 #[derive(Drop)]

@@ -1,11 +1,11 @@
 -- A transaction's reads in a multimap: a Got adds one, and the transaction's own events remove them again.
 use Rattle.std.proofs.Common.{◌≡◌, ℤ, suc, Bool, true, false, cond, not, eqb, List, [], ◌∷◌, ◌++◌, length, filter, is_some, Option, Some, None, refl, sym, ◌∙◌, ap, arith}
-use Rattle.teb_names.specs.declared.Txn.{Txn}
-use Rattle.teb_names.specs.declared.Cell.{Cell}
-use Rattle.teb_names.specs.Cells.{same_cell}
-use Rattle.teb_history.specs.declared.Event.{Event}
-use Rattle.teb_history.specs.declared.Event.TheVariants.{Got}
-use Rattle.teb_history.specs.OwnEvents.{is_of, own_events, got_in}
+use Rattle.teb_rules.specs.declared.names.Txn.{Txn}
+use Rattle.teb_rules.specs.declared.names.Cell.{Cell}
+use Rattle.teb_rules.specs.names.Cells.{same_cell}
+use Rattle.teb_rules.specs.declared.history.Event.{Event}
+use Rattle.teb_rules.specs.declared.history.Event.TheVariants.{Got}
+use Rattle.teb_rules.specs.history.OwnEvents.{is_of, own_events, got_in}
 use Rattle.sorted_multimap.specs.LastMatches.{without_last}
 use Rattle.timestamp_node.specs.Reads.{all_reads, is_by}
 use Rattle.sorted_multimap.proofs.TakenMatches.{filter_last, fewer_pass, none_left}

@@ -1,10 +1,10 @@
 -- Which transactions are on the node, and have joined a batch.
 use Rattle.std.proofs.Common.{◌≡◌, ◌⊎◌, ℕ, true, IsTrue}
-use Rattle.teb_names.specs.declared.Txn.{Txn}
-use Rattle.teb_names.specs.declared.Cell.{Cell}
-use Rattle.teb_history.specs.Phases.{unfinished, begun}
+use Rattle.teb_rules.specs.declared.names.Txn.{Txn}
+use Rattle.teb_rules.specs.declared.names.Cell.{Cell}
+use Rattle.teb_rules.specs.history.Phases.{unfinished, begun}
 use Rattle.teb_rules.specs.Tree.{meets}
-use Rattle.teb_laws.proofs.Nodes.{meets_parts}
+use Rattle.teb_rules.proofs.lemmas.laws.Nodes.{meets_parts}
 use Rattle.phase_api.specs.declared.facts.Facts.{Facts}
 use Rattle.phase_api.specs.FactsView.{setup_of, events_of, IsTyped, IsOrderly}
 use Rattle.phase_api.specs.Calls.{IsHere}

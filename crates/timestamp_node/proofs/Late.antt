@@ -3,24 +3,24 @@ use Rattle.std.proofs.Common.{◌≡◌, ℕ, ◌<◌, ◌≤◌, Bool, true, fa
 use Rattle.std.specs.List.{list_any}
 use Rattle.std.proofs.lemmas.List.{append-nil, append_assoc}
 use Rattle.std.proofs.lemmas.Bool.{cases_Bool, eqb-true, ltb-false, false_from_ne_true}
-use Rattle.teb_names.specs.declared.Txn.{Txn}
-use Rattle.teb_names.specs.declared.Cell.{Cell}
-use Rattle.teb_names.specs.Cells.{same_cell}
-use Rattle.teb_names.proofs.Bools.{and_false, or_false, or_swap}
-use Rattle.teb_history.specs.declared.Event.{Event}
-use Rattle.teb_history.specs.declared.Event.TheVariants.{Got}
-use Rattle.teb_history.specs.Phases.{numbers, txns, begun_count, aborted}
-use Rattle.teb_history.specs.Written.{txn_of}
+use Rattle.teb_rules.specs.declared.names.Txn.{Txn}
+use Rattle.teb_rules.specs.declared.names.Cell.{Cell}
+use Rattle.teb_rules.specs.names.Cells.{same_cell}
+use Rattle.teb_rules.proofs.lemmas.names.Bools.{and_false, or_false, or_swap}
+use Rattle.teb_rules.specs.declared.history.Event.{Event}
+use Rattle.teb_rules.specs.declared.history.Event.TheVariants.{Got}
+use Rattle.teb_rules.specs.history.Phases.{numbers, txns, begun_count, aborted}
+use Rattle.teb_rules.specs.history.Written.{txn_of}
 use Rattle.teb_rules.specs.Setup.{Setup}
 use Rattle.teb_rules.specs.Tree.{on, meets}
 use Rattle.teb_rules.specs.Batches.{start}
 use Rattle.teb_rules.specs.Versions.{precedes}
 use Rattle.teb_rules.specs.Controls.{has_read_before, is_late}
-use Rattle.teb_laws.proofs.Nodes.{meets_parts}
+use Rattle.teb_rules.proofs.lemmas.laws.Nodes.{meets_parts}
 use Rattle.timestamp_node.specs.Reads.{all_reads, reads}
 use Rattle.timestamp_node.specs.Late.{is_after, lesser_txn}
 use Rattle.timestamp_node.proofs.Readers.{AllOf}
-use Rattle.teb_history.proofs.LeastNumbers.{find_alike, nobody, lesser, find_either, numbers_find}
+use Rattle.teb_rules.proofs.lemmas.history.LeastNumbers.{find_alike, nobody, lesser, find_either, numbers_find}
 
 -- u made one of the reads that pass
 abbrev pub read_by : (Txn × Txn → Bool) → List (Txn × Txn) → ℕ → Bool

@@ -1,19 +1,19 @@
 -- The reads, the batches and the order of a history after one more event.
 use Rattle.std.proofs.Common.{◌≡◌, ℕ, ℤ, suc, Bool, true, false, cond, not, ◌&&◌, ◌||◌, ◌-◌, eqb, List, [], ◌∷◌, ◌++◌, Option, drop, length, filter, refl, sym, ◌∙◌, ap, subst, arith, IsTrue}
 use Rattle.std.proofs.lemmas.Bool.{and_from, or_left, eqb-true}
-use Rattle.teb_names.specs.declared.Txn.{Txn}
-use Rattle.teb_names.specs.declared.Cell.{Cell}
-use Rattle.teb_names.specs.declared.Spot.{Spot}
-use Rattle.teb_names.specs.declared.Session.{Session}
-use Rattle.teb_names.specs.declared.Kind.{Kind}
-use Rattle.teb_names.specs.declared.Cause.{Cause}
-use Rattle.teb_names.specs.Cells.{cell_cmp, same_cell}
-use Rattle.teb_names.proofs.Bools.{eqb_swap}
-use Rattle.teb_history.specs.declared.Event.{Event}
-use Rattle.teb_history.specs.declared.Event.TheVariants.{Began, Got, Put, Ready, Done, Gone, Told}
-use Rattle.teb_history.specs.Phases.{is_began, is_gone, begun, unfinished, aborted, spot_of}
-use Rattle.teb_history.specs.Accesses.{got}
-use Rattle.teb_history.proofs.Filters.{filter_both, filter_push}
+use Rattle.teb_rules.specs.declared.names.Txn.{Txn}
+use Rattle.teb_rules.specs.declared.names.Cell.{Cell}
+use Rattle.teb_rules.specs.declared.names.Spot.{Spot}
+use Rattle.teb_rules.specs.declared.names.Session.{Session}
+use Rattle.teb_rules.specs.declared.names.Kind.{Kind}
+use Rattle.teb_rules.specs.declared.names.Cause.{Cause}
+use Rattle.teb_rules.specs.names.Cells.{cell_cmp, same_cell}
+use Rattle.teb_rules.proofs.lemmas.names.Bools.{eqb_swap}
+use Rattle.teb_rules.specs.declared.history.Event.{Event}
+use Rattle.teb_rules.specs.declared.history.Event.TheVariants.{Began, Got, Put, Ready, Done, Gone, Told}
+use Rattle.teb_rules.specs.history.Phases.{is_began, is_gone, begun, unfinished, aborted, spot_of}
+use Rattle.teb_rules.specs.history.Accesses.{got}
+use Rattle.teb_rules.proofs.lemmas.history.Filters.{filter_both, filter_push}
 use Rattle.teb_rules.specs.Setup.{Setup}
 use Rattle.teb_rules.specs.Tree.{on, side, on_path, side_at}
 use Rattle.phase_api.specs.FactsView.{IsOrderly}

@@ -1,18 +1,18 @@
 -- If a reader's batch closed before another starts, the batches of all earlier readers started before it too.
 use Rattle.std.proofs.Common.{◌≡◌, ℕ, ◌<◌, ◌≤◌, Bool, true, false, cond, ◌&&◌, ◌||◌, eqb, List, [], ◌∷◌, ◌++◌, length, refl, sym, ◌∙◌, subst, arith, le-ltb}
 use Rattle.std.proofs.lemmas.Bool.{and_left, and_right}
-use Rattle.teb_names.specs.declared.Txn.{Txn}
-use Rattle.teb_names.specs.declared.Cell.{Cell}
-use Rattle.teb_names.specs.Cells.{same_cell}
-use Rattle.teb_history.specs.declared.Event.{Event}
-use Rattle.teb_history.specs.declared.Event.TheVariants.{Began, Got, Put, Ready, Done, Gone, Told}
-use Rattle.teb_history.specs.Positions.{first}
-use Rattle.teb_history.specs.Phases.{is_began, begun, unfinished}
+use Rattle.teb_rules.specs.declared.names.Txn.{Txn}
+use Rattle.teb_rules.specs.declared.names.Cell.{Cell}
+use Rattle.teb_rules.specs.names.Cells.{same_cell}
+use Rattle.teb_rules.specs.declared.history.Event.{Event}
+use Rattle.teb_rules.specs.declared.history.Event.TheVariants.{Began, Got, Put, Ready, Done, Gone, Told}
+use Rattle.teb_rules.specs.history.Positions.{first}
+use Rattle.teb_rules.specs.history.Phases.{is_began, begun, unfinished}
 use Rattle.teb_rules.specs.Setup.{Setup}
 use Rattle.teb_rules.specs.Tree.{on, side, meets}
 use Rattle.teb_rules.specs.Batches.{idle, start, close}
 use Rattle.teb_rules.specs.Versions.{precedes}
-use Rattle.teb_laws.proofs.Positions.{first-le, before, now, later, first_cases}
+use Rattle.teb_rules.proofs.lemmas.laws.Positions.{first-le, before, now, later, first_cases}
 use Rattle.phase_api.specs.Calls.{MayNote}
 use Rattle.access_conflicts.proofs.Orderly.{unfinished_begun, begun_kept}
 use Rattle.batch_book.specs.Histories.{IsNumbered}

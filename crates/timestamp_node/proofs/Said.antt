@@ -2,17 +2,17 @@
 use Rattle.std.proofs.Common.{◌≡◌, ℕ, suc, ◌<◌, Bool, true, false, cond, not, ◌&&◌, ◌||◌, eqb, ltb, List, [], ◌∷◌, find, length, slice_get, Option, Some, None, refl, sym, ◌∙◌, ap, subst, inl, inr, arith, eq-eqb, lt-ltb, le-leb, ltb-true}
 use Rattle.std.specs.List.{list_any}
 use Rattle.std.proofs.lemmas.Bool.{cases_Bool, and_parts, or_left, ltb-false, eqb-true}
-use Rattle.teb_names.specs.declared.Txn.{Txn}
-use Rattle.teb_names.specs.declared.Cell.{Cell}
-use Rattle.teb_names.specs.declared.Spot.{Spot}
-use Rattle.teb_names.specs.declared.ControlKind.{ControlKind}
-use Rattle.teb_names.specs.declared.ControlKind.TheVariants.{Timestamp}
-use Rattle.teb_names.proofs.Bools.{and_false}
-use Rattle.teb_history.specs.declared.Event.{Event}
-use Rattle.teb_history.specs.Phases.{txns, unfinished, begun_count}
-use Rattle.teb_history.specs.Written.{txn_of}
-use Rattle.teb_history.specs.Live.{is_live, live_txns, is_numbered}
-use Rattle.teb_history.proofs.FirstLive.{first_live}
+use Rattle.teb_rules.specs.declared.names.Txn.{Txn}
+use Rattle.teb_rules.specs.declared.names.Cell.{Cell}
+use Rattle.teb_rules.specs.declared.names.Spot.{Spot}
+use Rattle.teb_rules.specs.declared.names.ControlKind.{ControlKind}
+use Rattle.teb_rules.specs.declared.names.ControlKind.TheVariants.{Timestamp}
+use Rattle.teb_rules.proofs.lemmas.names.Bools.{and_false}
+use Rattle.teb_rules.specs.declared.history.Event.{Event}
+use Rattle.teb_rules.specs.history.Phases.{txns, unfinished, begun_count}
+use Rattle.teb_rules.specs.history.Written.{txn_of}
+use Rattle.teb_rules.specs.history.Live.{is_live, live_txns, is_numbered}
+use Rattle.teb_rules.proofs.lemmas.history.FirstLive.{first_live}
 use Rattle.teb_rules.specs.Setup.{Setup}
 use Rattle.teb_rules.specs.Tree.{row, leaf, meets, side_at, has_batches, is_timestamp, is_snapshot}
 use Rattle.teb_rules.specs.Batches.{start}
@@ -30,7 +30,7 @@ use Rattle.access_conflicts.specs.Waits.{wait_for_txn}
 use Rattle.access_conflicts.proofs.Orderly.{unfinished_begun}
 use Rattle.batch_book.specs.Histories.{full_at}
 use Rattle.batch_book.proofs.Telling.{begin_waits}
-use Rattle.teb_history.proofs.LeastNumbers.{find_alike, nobody}
+use Rattle.teb_rules.proofs.lemmas.history.LeastNumbers.{find_alike, nobody}
 
 wait_txn : (o : Option ℕ) → wait_for_txn (txn_of o) ≡ wait_for o
 wait_txn None = refl

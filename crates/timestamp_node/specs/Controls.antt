@@ -1,6 +1,6 @@
 -- What a timestamp control shows of itself.
 use Rattle.std.specs.Prelude.{ℕ, min, List}
-use Rattle.teb_history.specs.declared.Event.{Event}
+use Rattle.teb_rules.specs.declared.history.Event.{Event}
 use Rattle.teb_rules.specs.Setup.{Setup}
 use Rattle.timestamp_node.specs.Standing.{StampsStand}
 use Rattle.timestamp_node.specs.declared.stamps.Stamps.{Stamps}

@@ -1,11 +1,11 @@
 -- The reads at a node, with the writers read from.
 use Rattle.std.specs.Prelude.{ℕ, Bool, cond, not, ◌&&◌, eqb, List, [], ◌∷◌, ◌++◌, filter, IsTrue}
-use Rattle.teb_names.specs.declared.Txn.{Txn}
-use Rattle.teb_names.specs.declared.Cell.{Cell}
-use Rattle.teb_names.specs.Cells.{same_cell}
-use Rattle.teb_history.specs.declared.Event.{Event}
-use Rattle.teb_history.specs.declared.Event.TheVariants.{Got}
-use Rattle.teb_history.specs.Phases.{aborted, unfinished}
+use Rattle.teb_rules.specs.declared.names.Txn.{Txn}
+use Rattle.teb_rules.specs.declared.names.Cell.{Cell}
+use Rattle.teb_rules.specs.names.Cells.{same_cell}
+use Rattle.teb_rules.specs.declared.history.Event.{Event}
+use Rattle.teb_rules.specs.declared.history.Event.TheVariants.{Got}
+use Rattle.teb_rules.specs.history.Phases.{aborted, unfinished}
 use Rattle.teb_rules.specs.Setup.{Setup}
 use Rattle.teb_rules.specs.Tree.{on}
 

@@ -1,15 +1,15 @@
 //! Edits of the reads by cell: what a Got adds, and what an abort removes.
 
 ghost use Rattle.std.specs.Prelude.{◌≡◌, ◌<◌, ◌++◌, ◌∷◌, ◌+◌, [], cond, not, filter};
-ghost use Rattle.teb_names.specs.declared.Cell.{Cell};
-ghost use Rattle.teb_names.specs.Cells.{cell_cmp, same_cell};
+ghost use Rattle.teb_rules.specs.declared.names.Cell.{Cell};
+ghost use Rattle.teb_rules.specs.names.Cells.{cell_cmp, same_cell};
 ghost use Rattle.sorted_multimap.specs.Multimap.{values_in};
 ghost use Rattle.sorted_multimap.specs.LastMatches.{IsLastPlace, without_last};
 ghost use Rattle.timestamp_node.specs.Reads.{all_reads, is_by};
 
 use arena_multimap::CellMultimap;
-use teb_history::{Event, History};
-use teb_names::{Cell, Txn};
+use teb_rules::history::{Event, History};
+use teb_rules::names::{Cell, Txn};
 
 /// Appends a read to those of its cell. It takes one place of the room.
 pub(crate) fn push_read(reads: &mut CellMultimap<(Txn, Txn)>, cell: Cell, t: Txn, from: Txn)

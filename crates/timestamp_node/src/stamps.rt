@@ -2,10 +2,10 @@
 //! read breaks.
 
 ghost use Rattle.std.specs.Prelude.{◌≡◌, ◌⊎◌, ◌||◌, ◌&&◌, ◌<◌, ◌≤◌, ◌+◌, [], IfOk, IsTrue, List, drop, eqb, length, ltb, find};
-ghost use Rattle.teb_names.specs.declared.ControlKind.TheVariants.{Timestamp as IsTimestamp};
-ghost use Rattle.teb_history.specs.declared.Event.{Event};
-ghost use Rattle.teb_history.specs.Phases.{txns, unfinished};
-ghost use Rattle.teb_history.specs.Written.{txn_of};
+ghost use Rattle.teb_rules.specs.declared.names.ControlKind.TheVariants.{Timestamp as IsTimestamp};
+ghost use Rattle.teb_rules.specs.declared.history.Event.{Event};
+ghost use Rattle.teb_rules.specs.history.Phases.{txns, unfinished};
+ghost use Rattle.teb_rules.specs.history.Written.{txn_of};
 ghost use Rattle.teb_rules.specs.Setup.{Setup};
 ghost use Rattle.teb_rules.specs.Tree.{row, meets};
 ghost use Rattle.teb_rules.specs.Batches.{start};
@@ -26,8 +26,8 @@ use arena_multimap::CellMultimap;
 use batch_book::Batches;
 use phase_api::{Control, Facts};
 use std::alloc::{AllocError, Global};
-use teb_history::Event;
-use teb_names::{Cell, Node, Spot, Txn};
+use teb_rules::history::Event;
+use teb_rules::names::{Cell, Node, Spot, Txn};
 use teb_rules::{Broken, Verdict};
 use version_chain::Chains;
 

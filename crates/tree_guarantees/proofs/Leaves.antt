@@ -4,16 +4,16 @@ use Rattle.std.specs.Prelude.{IfSome}
 use Rattle.std.proofs.lemmas.Bool.{and_parts, and_from, false≢true}
 use Rattle.std.proofs.lemmas.List.Folds.{list_all-append}
 use Rattle.std.specs.List.{list_all}
-use Rattle.teb_names.specs.declared.Node.{Node}
-use Rattle.teb_names.specs.declared.Spot.{Spot}
+use Rattle.teb_rules.specs.declared.names.Node.{Node}
+use Rattle.teb_rules.specs.declared.names.Spot.{Spot}
 use Rattle.teb_rules.specs.Setup.{NodeRow, among}
 use Rattle.teb_rules.specs.Tree.{below, has_batches, houses, leaf, path, row, way}
-use Rattle.teb_laws.specs.Laws.{OfEveryStore}
+use Rattle.teb_rules.specs.laws.Laws.{OfEveryStore}
 use Rattle.guarantees.specs.Reading.{ReadsGoOn}
-use Rattle.cc_tree.specs.Grown.{Grown, parent_number, row_of}
-use Rattle.cc_tree.specs.Sound.{IsAccepted}
-use Rattle.cc_tree.specs.declared.rows.NodeRow.{NodeRow as Row}
-use Rattle.cc_tree.proofs.Below.{any_found}
+use Rattle.store_setup.specs.tree.Grown.{Grown, parent_number, row_of}
+use Rattle.store_setup.specs.tree.Sound.{IsAccepted}
+use Rattle.store_setup.specs.declared.tree.rows.NodeRow.{NodeRow as Row}
+use Rattle.store_setup.proofs.lemmas.tree.Below.{any_found}
 use Rattle.tree_guarantees.specs.Conditions.{Guarantees, ServesReads, has_batches_for, spot, type_has_batches, way_has_batches}
 use Rattle.tree_guarantees.proofs.Members.{all_have}
 use Rattle.tree_guarantees.proofs.Paths.{reads_are_served}

@@ -1,12 +1,12 @@
 -- A path on which every node keeps batches.
 use Rattle.std.proofs.Common.{◌≡◌, ◌↔◌, ℕ, Bool, List, sym, ◌∙◌, ap, IsTrue}
 use Rattle.std.specs.List.{list_all}
-use Rattle.teb_names.specs.declared.Spot.{Spot}
-use Rattle.teb_history.specs.declared.Event.{Event}
-use Rattle.teb_history.specs.Phases.{spot_of}
+use Rattle.teb_rules.specs.declared.names.Spot.{Spot}
+use Rattle.teb_rules.specs.declared.history.Event.{Event}
+use Rattle.teb_rules.specs.history.Phases.{spot_of}
 use Rattle.teb_rules.specs.Setup.{NodeRow, Store}
 use Rattle.teb_rules.specs.Tree.{has_batches, on, on_path, path}
-use Rattle.teb_laws.specs.Laws.{OfEveryStore, reached}
+use Rattle.teb_rules.specs.laws.Laws.{OfEveryStore, reached}
 use Rattle.guarantees.specs.Reading.{ReadsFreely, ReadsGoOn}
 use Rattle.tree_guarantees.specs.Conditions.{Guarantees, ServesReads}
 use Rattle.tree_guarantees.proofs.Members.{all_have, have_all}

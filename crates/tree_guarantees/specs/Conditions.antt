@@ -1,19 +1,19 @@
 -- What an answer on a tree says of the setups and stores that have it.
 use Rattle.std.specs.Prelude.{◌≡◌, ℕ, Bool, not, ◌&&◌, ◌||◌, List, length, Some, IsTrue}
 use Rattle.std.specs.List.{list_all}
-use Rattle.teb_names.specs.declared.Cell.{Cell}
-use Rattle.teb_names.specs.declared.Session.{Session}
-use Rattle.teb_names.specs.declared.Spot.{Spot}
-use Rattle.teb_names.specs.declared.Request.{Request}
-use Rattle.teb_names.specs.declared.Request.TheVariants.{Read, Scan}
-use Rattle.teb_history.specs.declared.Event.{Event}
-use Rattle.teb_history.specs.Phases.{unfinished, held, spot_of}
+use Rattle.teb_rules.specs.declared.names.Cell.{Cell}
+use Rattle.teb_rules.specs.declared.names.Session.{Session}
+use Rattle.teb_rules.specs.declared.names.Spot.{Spot}
+use Rattle.teb_rules.specs.declared.names.Request.{Request}
+use Rattle.teb_rules.specs.declared.names.Request.TheVariants.{Read, Scan}
+use Rattle.teb_rules.specs.declared.history.Event.{Event}
+use Rattle.teb_rules.specs.history.Phases.{unfinished, held, spot_of}
 use Rattle.teb_rules.specs.Setup.{NodeRow, Setup, Store, among}
 use Rattle.teb_rules.specs.Tree.{below, has_batches, row, way}
 use Rattle.teb_rules.specs.Accepted.{IsSound}
 use Rattle.teb_rules.specs.Alone.{is_served}
 use Rattle.teb_rules.specs.Answer.{answer}
-use Rattle.teb_laws.specs.Laws.{reached}
+use Rattle.teb_rules.specs.laws.Laws.{reached}
 
 -- the answer is the condition P of each setup with this tree
 abbrev pub IsCondition : (Setup → Bool) → List NodeRow → Bool → Type 0

@@ -19,9 +19,9 @@ mod types;
 
 ghost use Rattle.std.specs.Prelude.{◌≡◌, ◌↔◌, ◌<◌, ℕ, List, length, IsTrue};
 ghost use Rattle.std.specs.List.{All, list_all};
-ghost use Rattle.cc_tree.specs.Grown.{node_numbers, row_of};
-ghost use Rattle.teb_history.specs.declared.Event.{Event};
-ghost use Rattle.teb_history.specs.Phases.{spot_of};
+ghost use Rattle.store_setup.specs.tree.Grown.{node_numbers, row_of};
+ghost use Rattle.teb_rules.specs.declared.history.Event.{Event};
+ghost use Rattle.teb_rules.specs.history.Phases.{spot_of};
 ghost use Rattle.teb_rules.specs.Setup.{Setup, Store};
 ghost use Rattle.teb_rules.specs.Tree.{has_batches, row};
 ghost use Rattle.guarantees.specs.Cascades.{HasNoCascade};
@@ -30,8 +30,8 @@ ghost use Rattle.guarantees.specs.Shapes.{HidesUncommitted, keeps_time, orders_b
 ghost use Rattle.guarantees.specs.Time.{FollowsCommits, KeepsRealTime};
 ghost use Rattle.tree_guarantees.specs.Conditions.{Guarantees, IsCondition, ServesReads};
 
-use cc_tree::{NodeRow, Tree};
-use teb_names::{ControlKind, Node, Spot};
+use store_setup::tree::{NodeRow, Tree};
+use teb_rules::names::{ControlKind, Node, Spot};
 pub use types::type_reads_never_wait;
 
 /// Returns whether the root is a locks or a pipeline node. Then the serial order is the order of the commits.

@@ -2,14 +2,14 @@
 
 ghost use Rattle.std.specs.Prelude.{◌≡◌, ◌<◌, ◌&&◌, ℕ, List, length, IfSome, IsTrue};
 ghost use Rattle.std.specs.List.{list_all};
-ghost use Rattle.cc_tree.specs.Grown.{kind_numbers};
-ghost use Rattle.cc_tree.specs.Ways.{Climbs};
+ghost use Rattle.store_setup.specs.tree.Grown.{kind_numbers};
+ghost use Rattle.store_setup.specs.tree.Ways.{Climbs};
 ghost use Rattle.teb_rules.specs.Setup.{among};
 ghost use Rattle.teb_rules.specs.Tree.{below, climb, has_batches};
 ghost use Rattle.tree_guarantees.specs.Conditions.{Guarantees, ServesReads, has_batches_for, spot, type_has_batches, way_has_batches};
 
-use cc_tree::Tree;
-use teb_names::{ControlKind, Kind, Node};
+use store_setup::tree::Tree;
+use teb_rules::names::{ControlKind, Kind, Node};
 
 /// Returns whether the root and every node on the way to a leaf of a type is a timestamp or a snapshot node. Then each read and each scan of a transaction
 /// of the type is granted at once, whatever its instance, unless it is refused.

@@ -1,9 +1,9 @@
 -- A node is drawn after the earlier ones.
 use Rattle.std.proofs.Common.{◌≡◌, ℕ, zero, suc, ◌+◌, ◌-◌, ◌<◌, ◌≤◌, Bool, ◌==◌, List, [], ◌∷◌, ◌++◌, length, drop, take, refl, sym, ap, ◌∙◌, subst, append_assoc, arith}
 use Rattle.std.proofs.lemmas.List.{append-nil, drop-map, length-drop, take_all}
-use Rattle.teb_names.specs.declared.Node.{Node}
-use Rattle.teb_names.specs.declared.naming.NameBook.{NameBook}
-use Rattle.cc_tree.specs.Grown.{node_numbers}
+use Rattle.teb_rules.specs.declared.names.Node.{Node}
+use Rattle.teb_rules.specs.declared.names.naming.NameBook.{NameBook}
+use Rattle.store_setup.specs.tree.Grown.{node_numbers}
 use Rattle.teb_rules.specs.Setup.{NodeRow}
 use Rattle.tree_report.specs.Drawing.{IsBranch, branch, branches, children, drawn, node_line, stem}
 

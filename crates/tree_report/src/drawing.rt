@@ -2,14 +2,14 @@
 
 ghost use Rattle.std.specs.Prelude.{◌≡◌, ◌++◌, ◌<◌, IfOk, OnOk, length};
 ghost use Rattle.std.specs.List.{All};
-ghost use Rattle.cc_tree.specs.Grown.{node_numbers, row_of};
+ghost use Rattle.store_setup.specs.tree.Grown.{node_numbers, row_of};
 ghost use Rattle.teb_rules.specs.Accepted.{is_child_of};
 ghost use Rattle.tree_report.specs.Drawing.{IsBranch, branch, children, one_child, drawing, drawn, node_line, stem};
 
 use crate::node_line::put_node;
-use cc_tree::{NodeRow, Tree};
 use std::alloc::{AllocError, Global};
-use teb_names::{NameBook, Node};
+use store_setup::tree::{NodeRow, Tree};
+use teb_rules::names::{NameBook, Node};
 
 /// Precedes a node that has a later sibling.
 const BRANCH: &str = "├── ";

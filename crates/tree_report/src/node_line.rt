@@ -1,15 +1,15 @@
 //! The line of a node.
 
 ghost use Rattle.std.specs.Prelude.{◌≡◌, ◌++◌, ◌<◌, OnOk, length, map};
-ghost use Rattle.cc_tree.specs.Grown.{kind_numbers, row_of};
+ghost use Rattle.store_setup.specs.tree.Grown.{kind_numbers, row_of};
 ghost use Rattle.script_text.specs.Puts.{spaced};
 ghost use Rattle.script_text.specs.Texts.{name_of};
 ghost use Rattle.tree_report.specs.Drawing.{batch_words, control_word, has_batch, node_line, order_words, parameter_words, part_words, type_words};
 
-use cc_tree::{NodeRow, Tree};
 use line_words::{Word, name_at, put_next, put_spaced};
 use std::alloc::AllocError;
-use teb_names::{ControlKind, Kind, NameBook, Names, Node};
+use store_setup::tree::{NodeRow, Tree};
+use teb_rules::names::{ControlKind, Kind, NameBook, Names, Node};
 
 /// Appends the line of a node.
 #[tactic(auto, using(line_words::proofs::Joined::two_words))]

@@ -3,10 +3,10 @@
 ghost use Rattle.std.specs.Prelude.{◌≡◌, ◌++◌, [], OnOk};
 ghost use Rattle.tree_report.specs.Guarantees.{AreGuarantees, reads_line, sentence_line, always_text, shape_text, type_line, types_text, verdict};
 
-use cc_tree::Tree;
 use line_words::{Word, name_at, put_line};
 use std::alloc::AllocError;
-use teb_names::{Kind, Names};
+use store_setup::tree::Tree;
+use teb_rules::names::{Kind, Names};
 use tree_guarantees::{commits_in_order, has_no_cascades, is_strict, type_reads_never_wait};
 
 /// The sentences that hold for every tree.

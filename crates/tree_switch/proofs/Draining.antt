@@ -3,16 +3,16 @@ use Rattle.std.proofs.Common.{◌≡◌, ◌==◌, ℕ, Bool, true, false, List,
 use Rattle.std.specs.Prelude.{◌↔◌, IsTrue}
 use Rattle.std.proofs.lemmas.Bool.{both_ways, and_from, or_left, or_right}
 use Rattle.std.proofs.lemmas.Bool.Decides.{nat_tests}
-use Rattle.teb_names.specs.declared.Txn.{Txn}
-use Rattle.teb_history.specs.declared.Event.{Event}
-use Rattle.teb_history.specs.Phases.{held, session_of, unfinished, untold}
-use Rattle.teb_history.specs.Live.{is_live, live_txns}
-use Rattle.teb_history.proofs.Mentioned.{has}
-use Rattle.teb_history.proofs.FirstLive.{live_listed, listed_live}
+use Rattle.teb_rules.specs.declared.names.Txn.{Txn}
+use Rattle.teb_rules.specs.declared.history.Event.{Event}
+use Rattle.teb_rules.specs.history.Phases.{held, session_of, unfinished, untold}
+use Rattle.teb_rules.specs.history.Live.{is_live, live_txns}
+use Rattle.teb_rules.proofs.lemmas.history.Mentioned.{has}
+use Rattle.teb_rules.proofs.lemmas.history.FirstLive.{live_listed, listed_live}
 use Rattle.teb_rules.specs.Setup.{Setup}
-use Rattle.teb_laws.specs.Lawful.{Lawful}
-use Rattle.teb_laws.proofs.Holding.{Holds, held_holds, holds_cases, none_holds}
-use Rattle.teb_laws.proofs.Reachable.{untold_gone}
+use Rattle.teb_rules.specs.laws.Lawful.{Lawful}
+use Rattle.teb_rules.proofs.lemmas.laws.Holding.{Holds, held_holds, holds_cases, none_holds}
+use Rattle.teb_rules.proofs.lemmas.laws.Reachable.{untold_gone}
 use Rattle.tree_switch.specs.Refusals.{IsDrained}
 
 has_none : (n : ℕ) → has n [] ≡ false

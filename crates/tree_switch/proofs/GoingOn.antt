@@ -1,6 +1,6 @@
 -- Phases continue: the present one advances, or another one follows it.
 use Rattle.std.proofs.Common.{◌≡◌, ℕ, List, [], ◌∷◌, ◌++◌, refl, sym, ◌∙◌, ap, subst}
-use Rattle.teb_names.specs.declared.Cell.{Cell}
+use Rattle.teb_rules.specs.declared.names.Cell.{Cell}
 use Rattle.teb_rules.specs.Replay.{Values}
 use Rattle.engine_core.specs.EngineModel.{EngineModel, IsOfEngine}
 use Rattle.tree_switch.specs.Courses.{first_of, start_of, end_of, StartsWith, GoOn, IsCourse}

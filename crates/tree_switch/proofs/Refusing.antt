@@ -2,12 +2,12 @@
 use Rattle.std.proofs.Common.{◌≡◌, ◌==◌, true, List, [], ◌∷◌, length, refl, arith, eqb-true}
 use Rattle.std.proofs.lemmas.Bool.{and_parts}
 use Rattle.std.proofs.lemmas.Bool.Decides.{nat_tests}
-use Rattle.teb_history.specs.declared.Event.{Event}
-use Rattle.teb_history.specs.Phases.{session_of}
+use Rattle.teb_rules.specs.declared.history.Event.{Event}
+use Rattle.teb_rules.specs.history.Phases.{session_of}
 use Rattle.teb_rules.specs.Setup.{Setup}
-use Rattle.teb_laws.specs.Lawful.{Lawful}
-use Rattle.teb_laws.proofs.Holding.{held_began, held_holds}
-use Rattle.teb_laws.proofs.Sessions.{session_range}
+use Rattle.teb_rules.specs.laws.Lawful.{Lawful}
+use Rattle.teb_rules.proofs.lemmas.laws.Holding.{held_began, held_holds}
+use Rattle.teb_rules.proofs.lemmas.laws.Sessions.{session_range}
 use Rattle.engine_core.proofs.Running.{unfinished_numbered}
 use Rattle.tree_switch.specs.Refusals.{AreNumbered, AreOfSessions}
 

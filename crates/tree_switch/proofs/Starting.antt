@@ -1,16 +1,16 @@
 -- How a phase starts.
 use Rattle.std.proofs.Common.{◌≡◌, ℕ, ◌<◌, List, [], ◌∷◌, ◌++◌, length, sym, ◌∙◌, ap, subst, ℤ}
 use Rattle.std.specs.List.{All}
-use Rattle.teb_names.specs.declared.Cell.{Cell}
-use Rattle.teb_names.specs.declared.Session.{Session}
-use Rattle.teb_names.specs.declared.Request.{Request}
-use Rattle.teb_names.specs.declared.naming.NameBook.{NameBook}
+use Rattle.teb_rules.specs.declared.names.Cell.{Cell}
+use Rattle.teb_rules.specs.declared.names.Session.{Session}
+use Rattle.teb_rules.specs.declared.names.Request.{Request}
+use Rattle.teb_rules.specs.declared.names.naming.NameBook.{NameBook}
 use Rattle.teb_rules.specs.Setup.{Store}
 use Rattle.teb_rules.specs.Accepted.{IsSound}
 use Rattle.teb_rules.specs.Answer.{answer}
 use Rattle.teb_rules.specs.Replay.{Values}
-use Rattle.teb_laws.specs.Within.{StaysWithin}
-use Rattle.teb_laws.proofs.Within.{stays_within}
+use Rattle.teb_rules.specs.laws.Within.{StaysWithin}
+use Rattle.teb_rules.proofs.lemmas.laws.Within.{stays_within}
 use Rattle.serial_order.specs.Tables.{IsFinalRows}
 use Rattle.serial_order.proofs.Within.{rows_within, row_within}
 use Rattle.store_setup.specs.declared.Setup.{Setup}

@@ -2,12 +2,12 @@
 use Rattle.std.proofs.Common.{◌≡◌, ℕ, List, [], ◌∷◌, ◌++◌, map, refl, sym, ◌∙◌, ap, subst}
 use Rattle.std.specs.List.{All}
 use Rattle.std.proofs.lemmas.List.Elements.{All-nil, All-cons}
-use Rattle.teb_names.specs.declared.Cell.{Cell}
-use Rattle.teb_history.specs.declared.Event.{Event}
+use Rattle.teb_rules.specs.declared.names.Cell.{Cell}
+use Rattle.teb_rules.specs.declared.history.Event.{Event}
 use Rattle.teb_rules.specs.Ranks.{serial_order}
 use Rattle.teb_rules.specs.Replay.{Values, ReplaysRight, table_after, after_puts}
 use Rattle.teb_rules.specs.Serializes.{Serializes}
-use Rattle.teb_laws.proofs.Laws.{every_run_serializes}
+use Rattle.teb_rules.proofs.lemmas.laws.Laws.{every_run_serializes}
 use Rattle.engine_core.specs.EngineModel.{EngineModel, IsOfEngine}
 use Rattle.engine_core.proofs.Reached.{law_of}
 use Rattle.tree_switch.specs.Courses.{Course, phases, first, start_of, end_of, StartsWith, GoOn, IsCourse}

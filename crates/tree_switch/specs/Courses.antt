@@ -1,7 +1,7 @@
 -- The phases of a store, one engine after another.
 use Rattle.std.specs.Prelude.{◌≡◌, ℕ, List, [], ◌∷◌, ◌++◌}
-use Rattle.teb_names.specs.declared.Cell.{Cell}
-use Rattle.teb_names.specs.Rows.{row_of}
+use Rattle.teb_rules.specs.declared.names.Cell.{Cell}
+use Rattle.teb_rules.specs.names.Rows.{row_of}
 use Rattle.teb_rules.specs.Replay.{Values}
 use Rattle.teb_rules.specs.Serializes.{final_table}
 use Rattle.engine_core.specs.EngineModel.{EngineModel, IsOfEngine}

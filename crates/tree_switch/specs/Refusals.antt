@@ -1,12 +1,12 @@
 -- Why a phase may not be followed by the next.
 use Rattle.std.specs.Prelude.{◌≡◌, ◌≢◌, ℕ, ◌<◌, ◌≤◌, List, [], Some, MatchResult, Result, IsTrue}
-use Rattle.teb_history.specs.declared.Event.{Event}
-use Rattle.teb_history.specs.Phases.{begun_count, unfinished, aborted, held}
+use Rattle.teb_rules.specs.declared.history.Event.{Event}
+use Rattle.teb_rules.specs.history.Phases.{begun_count, unfinished, aborted, held}
 use Rattle.engine_core.specs.EngineModel.{EngineModel}
 use Rattle.store_setup.specs.SetupView.{SetupView}
 use Rattle.tree_switch.specs.declared.error.SwitchError.{SwitchError}
 use Rattle.tree_switch.specs.declared.error.SwitchError.TheVariants.{Again, Untold, Tables, Rows, OutOfMemory}
-use Rattle.teb_names.specs.declared.TheConstants.{SESSIONS}
+use Rattle.teb_rules.specs.declared.names.TheConstants.{SESSIONS}
 
 -- n is the least number with a property
 abbrev pub IsLeast : (ℕ → Type 0) → ℕ → Type 0

@@ -3,7 +3,7 @@
 ghost use Rattle.std.specs.Prelude.{◌≡◌};
 
 use std::alloc::AllocError;
-use teb_names::{Session, Txn};
+use teb_rules::names::{Session, Txn};
 use thiserror::Error;
 
 /// Why a store may not go on under another tree. The causes are looked at in this order.

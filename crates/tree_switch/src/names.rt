@@ -4,7 +4,7 @@ ghost use Rattle.std.specs.Prelude.{◌≡◌};
 ghost use Rattle.std.specs.Str.{bytes_eq};
 ghost use Rattle.tree_switch.specs.Names.{same_names};
 
-use teb_names::Names;
+use teb_rules::names::Names;
 
 /// Returns whether two lists of names are the same, in the same order.
 pub fn same_names(some: &Names, other: &Names) -> bool

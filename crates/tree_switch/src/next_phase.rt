@@ -1,8 +1,8 @@
 //! The start of the next phase.
 
 ghost use Rattle.std.specs.Prelude.{◌≡◌, [], IfOk};
-ghost use Rattle.teb_names.specs.declared.Cell.{Cell};
-ghost use Rattle.teb_names.specs.Rows.{IsAscending};
+ghost use Rattle.teb_rules.specs.declared.names.Cell.{Cell};
+ghost use Rattle.teb_rules.specs.names.Rows.{IsAscending};
 ghost use Rattle.store_setup.specs.SetupView.{setup_view};
 ghost use Rattle.store_setup.specs.Sound.{IsWhole};
 ghost use Rattle.engine_core.specs.EngineModel.{IsOfEngine};
@@ -12,7 +12,7 @@ use engine_core::Engine;
 use serial_order::tables;
 use std::alloc::{AllocError, Global};
 use store_setup::Setup;
-use teb_names::{Cell, Rows};
+use teb_rules::names::{Cell, Rows};
 use version_chain::Chains;
 
 /// Returns an engine under a setup, with the tables that another engine leaves as its starting rows. Nothing has happened in it.

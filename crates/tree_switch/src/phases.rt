@@ -1,7 +1,7 @@
 //! The phases of a store.
 
 ghost use Rattle.std.specs.Prelude.{◌≡◌, ◌++◌, ◌∷◌, ◌<◌, [], length, IsTrue, true, false, OnOk, OnErr, Some, slice_get};
-ghost use Rattle.teb_names.specs.declared.Cell.{Cell};
+ghost use Rattle.teb_rules.specs.declared.names.Cell.{Cell};
 ghost use Rattle.teb_rules.specs.Answer.{answer};
 ghost use Rattle.store_setup.specs.SetupView.{setup_view};
 ghost use Rattle.store_setup.specs.Sound.{IsWhole};
@@ -18,7 +18,7 @@ use std::alloc::{AllocError, Global};
 use std::marker::Model;
 use std::mem;
 use store_setup::Setup;
-use teb_names::{Reply, Request, Session};
+use teb_rules::names::{Reply, Request, Session};
 use version_chain::Chains;
 
 /// A store in phases, each under its tree. A phase starts with the tables that the one before it left. Contracts see the phases

@@ -8,8 +8,8 @@ use crate::error::SwitchError;
 use crate::names::same_names;
 use engine_core::Engine;
 use store_setup::Setup;
-use teb_history::History;
-use teb_names::{SESSIONS, Session, Txn};
+use teb_rules::history::History;
+use teb_rules::names::{SESSIONS, Session, Txn};
 use version_chain::Chains;
 
 /// Tests whether the store of an engine may go on under a setup. It costs a look at each transaction.

@@ -5,11 +5,11 @@ use Rattle.std.specs.Str.{bytes_eq}
 use Rattle.std.proofs.lemmas.Bool.{and_from, and_parts}
 use Rattle.std.proofs.lemmas.Cmp.{nat_list_eq_equiv}
 use Rattle.std.proofs.lemmas.Map.Keys.{IsDistinct-push}
-use Rattle.teb_names.specs.Names.{has}
+use Rattle.teb_rules.specs.names.Names.{has}
 use Rattle.toml.specs.Data.{Data, Members, as_str}
 use Rattle.tree_toml.specs.Reading.{formed, at}
 use Rattle.tree_toml.specs.Fields.{place, list_at, table_entry}
-use Rattle.teb_names.specs.Names.{is_name}
+use Rattle.teb_rules.specs.names.Names.{is_name}
 use Rattle.tree_toml.specs.Names.{named}
 use Rattle.tree_toml.specs.Tables.{table_in, tables_in, tables_of}
 use Rattle.tree_toml.specs.Types.{TypeList, no_types, name_in, name_text_of, steps_in, type_in, types_in, types_of}

@@ -3,13 +3,13 @@ use Rattle.std.proofs.Common.{◌≡◌, ℕ, ◌+◌, ◌-◌, ◌<◌, ◌≤�
 use Rattle.std.proofs.lemmas.Bool.{leb-true}
 use Rattle.std.proofs.lemmas.List.Elements.{All-push, All-nil}
 use Rattle.std.specs.List.{All}
-use Rattle.teb_names.specs.Names.{has}
-use Rattle.teb_names.specs.declared.ControlKind.{ControlKind}
+use Rattle.teb_rules.specs.names.Names.{has}
+use Rattle.teb_rules.specs.declared.names.ControlKind.{ControlKind}
 use Rattle.teb_rules.specs.Setup.{NodeRow}
 use Rattle.toml.specs.Data.{Data, Members, as_str}
 use Rattle.tree_toml.specs.Reading.{◌>>=◌, required, formed, at, each}
 use Rattle.tree_toml.specs.Fields.{place, integer_at, within, numbered, entry, entry_form, list_at, table_entry, counted, counted_at, array_at, at_top}
-use Rattle.teb_names.specs.Names.{is_name}
+use Rattle.teb_rules.specs.names.Names.{is_name}
 use Rattle.tree_toml.specs.Names.{named}
 use Rattle.tree_toml.specs.Types.{name_in, name_text_of}
 use Rattle.tree_toml.specs.Nodes.{member_of, member_in, members_from, members_in, texts_form, batch_of, commit_of, parts_of, part_of, Share, whole, has_key, share_of, share_for, leaf_row, node_row, node_in, node_rows, node_name, node_names, NodeList, nodes_of, control_of, own_keys, parent_of}

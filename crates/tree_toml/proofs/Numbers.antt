@@ -3,13 +3,13 @@ use Rattle.std.proofs.Common.{◌≡◌, ℕ, ◌+◌, Bool, ◌||◌, eqb, List
 use Rattle.std.specs.List.{list_any, All}
 use Rattle.std.proofs.lemmas.List.{length-map, get_or-map}
 use Rattle.std.specs.declared.alloc.Global.{Global}
-use Rattle.teb_names.specs.declared.Table.{Table}
-use Rattle.teb_names.specs.declared.Kind.{Kind}
+use Rattle.teb_rules.specs.declared.names.Table.{Table}
+use Rattle.teb_rules.specs.declared.names.Kind.{Kind}
 use Rattle.teb_rules.specs.Setup.{among}
 use Rattle.teb_rules.specs.Tree.{below}
-use Rattle.cc_tree.specs.Grown.{kind_numbers, row_of, rows_of}
-use Rattle.cc_tree.specs.declared.rows.NodeRow.{NodeRow as Row}
-use Rattle.txn_profile.specs.Steps.{numbers_of, steps_of}
+use Rattle.store_setup.specs.tree.Grown.{kind_numbers, row_of, rows_of}
+use Rattle.store_setup.specs.declared.tree.rows.NodeRow.{NodeRow as Row}
+use Rattle.store_setup.specs.profile.Steps.{numbers_of, steps_of}
 
 -- a table is found in a list if and only if its number is among the numbers
 pub contains_table : (tables : List Table) (a : ℕ) → list_any (λ t. eqb t.0 a) tables ≡ among a (numbers_of tables)

@@ -5,16 +5,16 @@ use Rattle.std.specs.Map.{lookup}
 use Rattle.std.specs.Ordering.{is_eq, is_lt, match_ordering, ordering_reverse}
 use Rattle.std.specs.declared.cmp.Ordering.{Ordering}
 use Rattle.std.specs.declared.cmp.Ordering.TheVariants.{Less, Equal, Greater}
-use Rattle.teb_names.specs.Cells.{same_cell, cell_cmp}
-use Rattle.teb_names.specs.Rows.{row_of, insert_row}
-use Rattle.teb_names.specs.declared.Cell.{Cell}
+use Rattle.teb_rules.specs.names.Cells.{same_cell, cell_cmp}
+use Rattle.teb_rules.specs.names.Rows.{row_of, insert_row}
+use Rattle.teb_rules.specs.declared.names.Cell.{Cell}
 use Rattle.tree_toml.specs.declared.fault.ListName.TheVariants as list
 use Rattle.tree_toml.specs.declared.fault.Key.TheVariants as key
 use Rattle.tree_toml.specs.declared.fault.FieldWhy.TheVariants.{Repeated}
 use Rattle.tree_toml.specs.Reading.{fault_at}
 use Rattle.tree_toml.specs.Fields.{place}
 use Rattle.tree_toml.specs.Rows.{row_placed}
-use Rattle.teb_names.proofs.CellOrder.{cell_cmp_total, same_cell-cell_cmp}
+use Rattle.teb_rules.proofs.lemmas.names.CellOrder.{cell_cmp_total, same_cell-cell_cmp}
 
 is_eq_reverse : (o : Ordering) → is_eq (ordering_reverse o) ≡ is_eq o
 is_eq_reverse Less = refl

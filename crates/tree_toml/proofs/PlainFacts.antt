@@ -4,8 +4,8 @@ use Rattle.std.proofs.lemmas.List.Elements.{All-nil, All-cons}
 use Rattle.std.proofs.lemmas.List.{length-map}
 use Rattle.teb_rules.specs.Tree.{below, climb, way}
 use Rattle.teb_rules.specs.Accepted.{tree_fault, homes}
-use Rattle.cc_tree.specs.Grown.{Grown, row_of, rows_of}
-use Rattle.cc_tree.specs.declared.rows.NodeRow.{NodeRow as Row}
+use Rattle.store_setup.specs.tree.Grown.{Grown, row_of, rows_of}
+use Rattle.store_setup.specs.declared.tree.rows.NodeRow.{NodeRow as Row}
 use Rattle.tree_toml.specs.Reading.{Answers}
 use Rattle.tree_toml.specs.SetupText.{grown, plain, plain_row}
 use Rattle.tree_toml.specs.Kept.{IsRow, AreRows}

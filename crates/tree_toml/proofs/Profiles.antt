@@ -5,14 +5,14 @@ use Rattle.std.proofs.lemmas.List.Folds.{list_any-append}
 use Rattle.std.proofs.lemmas.List.Quantifiers.{position-Some}
 use Rattle.std.specs.List.{list_all}
 use Rattle.std.specs.Str.{bytes_eq}
-use Rattle.teb_names.specs.Names.{number_of}
+use Rattle.teb_rules.specs.names.Names.{number_of}
 use Rattle.teb_rules.specs.Setup.{among, above, above_steps}
 use Rattle.teb_rules.specs.Tree.{below}
-use Rattle.cc_tree.proofs.Parts.{length_below}
+use Rattle.store_setup.proofs.lemmas.tree.Parts.{length_below}
 use Rattle.toml.specs.Data.{Data, Members, as_str}
-use Rattle.txn_profile.specs.Steps.{has_twice}
-use Rattle.txn_profile.specs.declared.faults.StepsError.{StepsError}
-use Rattle.txn_profile.specs.Faults.{steps_fault, first_step_fault}
+use Rattle.store_setup.specs.profile.Steps.{has_twice}
+use Rattle.store_setup.specs.declared.profile.faults.StepsError.{StepsError}
+use Rattle.store_setup.specs.profile.Faults.{steps_fault, first_step_fault}
 use Rattle.tree_toml.specs.Reading.{◌>>=◌, formed, at}
 use Rattle.tree_toml.specs.Fields.{numbered, as_list, array_at, counted}
 use Rattle.tree_toml.specs.Types.{step_table_at, step_from, step_in, steps_from, steps_in, steps_form, is_step}

@@ -2,12 +2,12 @@
 use Rattle.std.proofs.Common.{◌≡◌, ℕ, ◌+◌, ◌<◌, ◌≤◌, ℤ, true, false, cond, if◌then◌else◌, List, [], ◌∷◌, length, codes, Option, Some, None, is_some, Ok, Err, refl, ap, arith}
 use Rattle.std.specs.List.{All, AllByRecursion}
 use Rattle.std.proofs.lemmas.List.Elements.{All-from_recursion}
-use Rattle.teb_names.specs.declared.rows.TheConstants.{MOST_ROWS}
-use Rattle.teb_names.specs.declared.Cell.{Cell}
-use Rattle.teb_names.specs.declared.Table.{Table}
-use Rattle.teb_names.specs.Cells.{is_before}
-use Rattle.teb_names.specs.Rows.{row_of, insert_row, IsAscending}
-use Rattle.teb_names.proofs.Ascending.{ascending_after}
+use Rattle.teb_rules.specs.declared.names.rows.TheConstants.{MOST_ROWS}
+use Rattle.teb_rules.specs.declared.names.Cell.{Cell}
+use Rattle.teb_rules.specs.declared.names.Table.{Table}
+use Rattle.teb_rules.specs.names.Cells.{is_before}
+use Rattle.teb_rules.specs.names.Rows.{row_of, insert_row, IsAscending}
+use Rattle.teb_rules.proofs.lemmas.names.Ascending.{ascending_after}
 use Rattle.toml.specs.Data.{Data, Members}
 use Rattle.tree_toml.specs.Reading.{◌>>=◌, required, at}
 use Rattle.tree_toml.specs.Fields.{place, text_at, numbered, list_at, table_entry}

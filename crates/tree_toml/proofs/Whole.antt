@@ -3,12 +3,12 @@ use Rattle.std.proofs.Common.{◌≡◌, ℕ, zero, suc, ◌<◌, ◌≤◌, Boo
 use Rattle.std.specs.List.{IsDistinct}
 use Rattle.std.specs.Result.{IfOk}
 use Rattle.std.proofs.lemmas.List.Elements.{All-nil}
-use Rattle.teb_names.specs.Names.{is_name}
-use Rattle.teb_names.specs.declared.Cell.{Cell}
+use Rattle.teb_rules.specs.names.Names.{is_name}
+use Rattle.teb_rules.specs.declared.names.Cell.{Cell}
 use Rattle.teb_rules.specs.Setup.{NodeRow, profile}
 use Rattle.teb_rules.specs.Tree.{row, no_row, below, climb, way}
 use Rattle.teb_rules.specs.Accepted.{Fault, IsSound, tree_fault, homes}
-use Rattle.cc_tree.specs.Grown.{Grown}
+use Rattle.store_setup.specs.tree.Grown.{Grown}
 use Rattle.toml.specs.Data.{Members}
 use Rattle.toml.specs.Parse.{parse_document}
 use Rattle.std.specs.Str.{is_utf8}

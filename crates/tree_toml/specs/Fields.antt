@@ -1,6 +1,6 @@
 -- The keys of a table of TOML, and what its values have to be.
 use Rattle.std.specs.Prelude.{ℕ, ℤ, pos, negsuc, Bool, true, ◌&&◌, ◌==◌, nat_le, if◌then◌else◌, List, [], ◌∷◌, length, codes, Result, Ok, Err, Option, Some, None, is_some, option_map}
-use Rattle.teb_names.specs.Names.{has, number_of}
+use Rattle.teb_rules.specs.names.Names.{has, number_of}
 use Rattle.toml.specs.Data.{Data, Items, no_items, item, Members, no_members, member, get_member, as_str, as_integer, as_array, as_table}
 use Rattle.tree_toml.specs.declared.fault.ListName.{ListName}
 use Rattle.tree_toml.specs.declared.fault.ListName.TheVariants as list

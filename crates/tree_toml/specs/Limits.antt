@@ -1,7 +1,7 @@
 -- What a tree text can say.
 use Rattle.std.specs.Prelude.{◌≤◌, length}
-use Rattle.teb_names.specs.declared.rows.TheConstants.{MOST_ROWS}
-use Rattle.teb_names.specs.Rows.{IsAscending}
+use Rattle.teb_rules.specs.declared.names.rows.TheConstants.{MOST_ROWS}
+use Rattle.teb_rules.specs.names.Rows.{IsAscending}
 use Rattle.store_setup.specs.SetupView.{SetupView}
 
 -- no more than it may have of each list, one row a cell, in ascending order, and a known format

@@ -1,6 +1,6 @@
 -- New names.
 use Rattle.std.specs.Prelude.{ℕ, not, if◌then◌else◌, List, [], ◌∷◌, ◌++◌, Result, Ok, Err}
-use Rattle.teb_names.specs.Names.{is_name, has}
+use Rattle.teb_rules.specs.names.Names.{is_name, has}
 use Rattle.tree_toml.specs.declared.fault.FieldWhy.{FieldWhy}
 use Rattle.tree_toml.specs.declared.fault.FieldWhy.TheVariants.{Name, Repeated}
 

@@ -1,8 +1,8 @@
 -- The nodes of a tree text. They are gone through twice, so that every name is known when a parent is read.
 use Rattle.std.specs.Prelude.{ℕ, ◌-◌, Bool, true, false, not, ◌&&◌, ◌||◌, if◌then◌else◌, List, [], ◌∷◌, ◌++◌, codes, Result, Ok, Err, Option, Some, None, is_some}
 use Rattle.std.specs.Str.{bytes_eq}
-use Rattle.teb_names.specs.declared.ControlKind.{ControlKind}
-use Rattle.teb_names.specs.declared.ControlKind.TheVariants.{Locks, Pipeline, Timestamp, Snapshot}
+use Rattle.teb_rules.specs.declared.names.ControlKind.{ControlKind}
+use Rattle.teb_rules.specs.declared.names.ControlKind.TheVariants.{Locks, Pipeline, Timestamp, Snapshot}
 use Rattle.teb_rules.specs.Setup.{NodeRow}
 use Rattle.teb_rules.specs.Tree.{is_timestamp, is_snapshot}
 use Rattle.toml.specs.Data.{Data, Members, as_str, get_member}

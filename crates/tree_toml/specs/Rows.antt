@@ -1,9 +1,9 @@
 -- The starting rows of a tree text.
 use Rattle.std.specs.Prelude.{ℕ, ℤ, if◌then◌else◌, List, [], codes, Result, Ok, Err, is_some}
-use Rattle.teb_names.specs.declared.rows.TheConstants.{MOST_ROWS}
-use Rattle.teb_names.specs.declared.Cell.{Cell}
-use Rattle.teb_names.specs.declared.Table.{Table}
-use Rattle.teb_names.specs.Rows.{row_of, insert_row}
+use Rattle.teb_rules.specs.declared.names.rows.TheConstants.{MOST_ROWS}
+use Rattle.teb_rules.specs.declared.names.Cell.{Cell}
+use Rattle.teb_rules.specs.declared.names.Table.{Table}
+use Rattle.teb_rules.specs.names.Rows.{row_of, insert_row}
 use Rattle.toml.specs.Data.{Data, Members}
 use Rattle.tree_toml.specs.declared.fault.ListName.TheVariants as list
 use Rattle.tree_toml.specs.declared.fault.Key.TheVariants as key

@@ -2,7 +2,7 @@
 use Rattle.tree_toml.specs.declared.types.Types.{Types}
 use Rattle.tree_toml.specs.declared.nodes.Nodes.{Nodes}
 use Rattle.tree_toml.specs.declared.shares.Share.{Share as ShareRead}
-use Rattle.cc_tree.specs.Grown.{rows_of}
+use Rattle.store_setup.specs.tree.Grown.{rows_of}
 use Rattle.tree_toml.specs.Types.{TypeList}
 use Rattle.tree_toml.specs.Nodes.{NodeList, Share}
 

@@ -2,13 +2,13 @@
 use Rattle.std.specs.Prelude.{ℕ, Bool, false, ◌||◌, ◌==◌, if◌then◌else◌, List, [], ◌∷◌, length, codes, Result, Ok, Err, Option, Some, None}
 use Rattle.std.specs.List.{list_all}
 use Rattle.std.specs.Str.{is_utf8}
-use Rattle.teb_names.specs.declared.ControlKind.TheVariants.{Locks}
+use Rattle.teb_rules.specs.declared.names.ControlKind.TheVariants.{Locks}
 use Rattle.teb_rules.specs.Setup.{NodeRow}
 use Rattle.teb_rules.specs.Accepted.{Fault, tree_fault}
 use Rattle.teb_rules.specs.Accepted as fault
-use Rattle.cc_tree.specs.Grown.{Grown}
-use Rattle.cc_tree.specs.declared.fault.Rule.TheVariants as rule
-use Rattle.cc_tree.specs.declared.fault.ShapeWhy.TheVariants as shape
+use Rattle.store_setup.specs.tree.Grown.{Grown}
+use Rattle.store_setup.specs.declared.tree.fault.Rule.TheVariants as rule
+use Rattle.store_setup.specs.declared.tree.fault.ShapeWhy.TheVariants as shape
 use Rattle.store_setup.specs.SetupView.{SetupView}
 use Rattle.toml.specs.Data.{Members}
 use Rattle.toml.specs.Parse.{parse_document}

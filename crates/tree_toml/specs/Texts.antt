@@ -1,9 +1,9 @@
 -- The lines that tell of a bad tree.
 use Rattle.std.specs.Prelude.{ℕ, ◌++◌, List, [], ◌∷◌, codes, decimal}
-use Rattle.cc_tree.specs.declared.fault.Rule.{Rule}
-use Rattle.cc_tree.specs.declared.fault.Rule.TheVariants as rule
-use Rattle.cc_tree.specs.declared.fault.ShapeWhy.{ShapeWhy}
-use Rattle.cc_tree.specs.declared.fault.ShapeWhy.TheVariants as shape
+use Rattle.store_setup.specs.declared.tree.fault.Rule.{Rule}
+use Rattle.store_setup.specs.declared.tree.fault.Rule.TheVariants as rule
+use Rattle.store_setup.specs.declared.tree.fault.ShapeWhy.{ShapeWhy}
+use Rattle.store_setup.specs.declared.tree.fault.ShapeWhy.TheVariants as shape
 use Rattle.tree_toml.specs.declared.fault.ListName.{ListName}
 use Rattle.tree_toml.specs.declared.fault.ListName.TheVariants as list
 use Rattle.tree_toml.specs.declared.fault.Key.{Key}

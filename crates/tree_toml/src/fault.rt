@@ -3,9 +3,9 @@
 ghost use Rattle.std.specs.Prelude.{◌≡◌};
 ghost use Rattle.tree_toml.specs.Reading.{fault_at, at as spec_at};
 
-use cc_tree::{Rule, ShapeWhy};
 use std::alloc::{AllocError, AllocFailed};
-use teb_names::Node;
+use store_setup::tree::{Rule, ShapeWhy};
+use teb_rules::names::Node;
 use thiserror::Error;
 
 /// The lists of a tree text, and its top.

@@ -3,13 +3,13 @@
 ghost use Rattle.std.specs.Prelude.{◌≡◌, ◌≤◌, map, option_map, option_copied, IfOk};
 ghost use Rattle.toml.specs.Data.{get_member};
 ghost use Rattle.toml.specs.View.{view, table_view};
-ghost use Rattle.teb_names.specs.Names.{has};
+ghost use Rattle.teb_rules.specs.names.Names.{has};
 ghost use Rattle.tree_toml.specs.declared.fault.ListName.TheVariants.{Top, Nodes};
 ghost use Rattle.tree_toml.specs.Reading.{Gives, required as spec_required};
 ghost use Rattle.tree_toml.specs.Fields.{place as spec_place, as_list as spec_as_list, keys_of, all_known as spec_all_known, text_at as spec_text_at, integer_at as spec_integer_at, array_at as spec_array_at, within as spec_within, numbered as spec_numbered};
 
 use crate::fault::{FieldWhy, Key, ListName, Place};
-use teb_names::Names;
+use teb_rules::names::Names;
 use toml::{Table, Value};
 
 /// Returns the place of a key.

@@ -2,7 +2,7 @@
 
 ghost use Rattle.std.specs.Prelude.{◌≡◌, [], map};
 ghost use Rattle.toml.specs.View.{view, table_view};
-ghost use Rattle.cc_tree.specs.Grown.{kind_numbers};
+ghost use Rattle.store_setup.specs.tree.Grown.{kind_numbers};
 ghost use Rattle.tree_toml.specs.Reading.{Answers, Gives};
 ghost use Rattle.tree_toml.specs.Nodes.{texts_form as spec_texts_form, member_of, member_in, members_from, members_in};
 
@@ -10,7 +10,7 @@ use crate::fault::{FieldWhy, Place, TreeText, at};
 use crate::fields::{array_at, numbered};
 use crate::steps::are_texts;
 use std::alloc::Global;
-use teb_names::{Kind, Names};
+use teb_rules::names::{Kind, Names};
 use toml::{Table, Value};
 
 /// Returns the types of a node: none if they are not given.

@@ -8,7 +8,7 @@ ghost use Rattle.tree_toml.specs.Names.{named};
 
 use crate::fault::{FieldWhy, Place, TreeText, at};
 use crate::fields::{required, text_at};
-use teb_names::{Names, is_name};
+use teb_rules::names::{Names, is_name};
 use toml::Table;
 
 /// Appends a new name.

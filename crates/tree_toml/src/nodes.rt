@@ -2,7 +2,7 @@
 
 ghost use Rattle.std.specs.Prelude.{◌≡◌, ◌≤◌, ◌<◌, ◌+◌, [], length, map, OnOk};
 ghost use Rattle.toml.specs.View.{view, table_view};
-ghost use Rattle.cc_tree.specs.Grown.{row_of, rows_of, parent_number};
+ghost use Rattle.store_setup.specs.tree.Grown.{row_of, rows_of, parent_number};
 ghost use Rattle.tree_toml.specs.Reading.{Answers};
 ghost use Rattle.tree_toml.specs.Nodes.{node_name, node_names, node_row, leaf_row, node_in, node_rows, nodes_of};
 ghost use Rattle.tree_toml.specs.Seen.{nodes_view};
@@ -14,9 +14,9 @@ use crate::members::read_members;
 use crate::names::add_entry_name;
 use crate::node_fields::{own_keys, read_batch, read_commit, read_control, read_parent};
 use crate::shares::{read_share, share_for};
-use cc_tree::NodeRow;
 use std::alloc::Global;
-use teb_names::{ControlKind, Names, Node};
+use store_setup::tree::NodeRow;
+use teb_rules::names::{ControlKind, Names, Node};
 use toml::{Table, Value};
 
 /// The names and the rows of the nodes.

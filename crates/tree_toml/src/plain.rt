@@ -1,19 +1,19 @@
 //! The plain setup: one table, and one type in one locks leaf.
 
 ghost use Rattle.std.specs.Prelude.{◌≡◌, ◌∷◌, [], IfOk, Ok, codes};
-ghost use Rattle.cc_tree.specs.Grown.{rows_of};
-ghost use Rattle.txn_profile.specs.Steps.{steps_of};
+ghost use Rattle.store_setup.specs.tree.Grown.{rows_of};
+ghost use Rattle.store_setup.specs.profile.Steps.{steps_of};
 ghost use Rattle.tree_toml.specs.Reading.{Answers};
 ghost use Rattle.tree_toml.specs.SetupText.{plain as spec_plain, plain_row};
 ghost use Rattle.store_setup.specs.SetupView.{setup_view};
 
 use crate::fault::TreeText;
 use crate::trees::grow;
-use cc_tree::{NodeRow, Tree};
 use std::alloc::{AllocError, Global};
 use store_setup::Setup;
-use teb_names::{ControlKind, Kind, NameBook, Names, Rows, Table};
-use txn_profile::Profile;
+use store_setup::profile::Profile;
+use store_setup::tree::{NodeRow, Tree};
+use teb_rules::names::{ControlKind, Kind, NameBook, Names, Rows, Table};
 
 /// Returns the plain setup.
 pub fn plain(alloc: Global) -> Result<Setup, TreeText>

@@ -10,7 +10,7 @@ use crate::fields::{integer_at, numbered, place, required, text_at, within};
 use crate::lists::{list_at, table_entry};
 use std::alloc::{AllocError, Global};
 use std::collections::BTreeMap;
-use teb_names::{Cell, MOST_ROWS, Names, Rows, Table as TableNumber};
+use teb_rules::names::{Cell, MOST_ROWS, Names, Rows, Table as TableNumber};
 use toml::{Table, Value};
 
 /// Returns the starting rows. They may be in any order: n of them cost n log n.

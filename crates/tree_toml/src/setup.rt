@@ -18,7 +18,7 @@ use crate::trees::grow;
 use crate::types::read_types;
 use std::alloc::Global;
 use store_setup::Setup;
-use teb_names::NameBook;
+use teb_rules::names::NameBook;
 use toml::Table;
 
 /// Returns the setup of a tree text. A text of spaces, tabs, carriage returns and line feeds alone is the plain setup: the table

@@ -2,7 +2,7 @@
 
 ghost use Rattle.std.specs.Prelude.{◌≡◌};
 ghost use Rattle.toml.specs.View.{table_view};
-ghost use Rattle.cc_tree.specs.Grown.{kind_numbers};
+ghost use Rattle.store_setup.specs.tree.Grown.{kind_numbers};
 ghost use Rattle.tree_toml.specs.Nodes.{parts_of, part_of, share_of, share_for as spec_share_for};
 ghost use Rattle.tree_toml.specs.Reading.{Gives};
 ghost use Rattle.tree_toml.specs.Seen.{share_view};
@@ -10,7 +10,7 @@ ghost use Rattle.tree_toml.specs.Seen.{share_view};
 use crate::fault::{FieldWhy, Key, ListName, TreeText, at};
 use crate::fields::{integer_at, place, required, within};
 use crate::node_fields::has_key;
-use teb_names::Kind;
+use teb_rules::names::Kind;
 use toml::Table;
 
 /// A part, from 0, and the number of parts.

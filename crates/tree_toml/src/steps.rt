@@ -5,16 +5,16 @@ ghost use Rattle.std.specs.List.{list_all};
 ghost use Rattle.teb_rules.specs.Setup.{among};
 ghost use Rattle.teb_rules.specs.Tree.{below};
 ghost use Rattle.toml.specs.View.{view, table_view};
-ghost use Rattle.txn_profile.specs.Steps.{numbers_of, steps_of};
+ghost use Rattle.store_setup.specs.profile.Steps.{numbers_of, steps_of};
 ghost use Rattle.tree_toml.specs.Reading.{Answers, Gives, each};
 ghost use Rattle.tree_toml.specs.Types.{is_text as spec_is_text, is_step as spec_is_step, steps_form as spec_steps_form, step_table, step_table_at, step_from, step_in, steps_from, steps_in};
 
 use crate::fault::{FieldWhy, Place, TreeText, at};
 use crate::fields::{array_at, as_list, numbered};
 use std::alloc::{AllocError, Global};
-use teb_names::{Names, Table as TableNumber};
+use store_setup::profile::Profile;
+use teb_rules::names::{Names, Table as TableNumber};
 use toml::{Table, Value};
-use txn_profile::Profile;
 
 const MOST_STEPS: usize = 16;
 

@@ -10,7 +10,7 @@ use crate::fields::{integer_at, place, required, within};
 use crate::lists::{MOST, list_at};
 use crate::names::add_name;
 use std::alloc::Global;
-use teb_names::Names;
+use teb_rules::names::Names;
 use toml::{Table, Value};
 
 /// Returns the format, 1 to 3.

@@ -1,14 +1,14 @@
 //! The tree of rows that were read.
 
 ghost use Rattle.std.specs.Prelude.{◌<◌, ◌≤◌, length};
-ghost use Rattle.cc_tree.specs.Grown.{rows_of};
+ghost use Rattle.store_setup.specs.tree.Grown.{rows_of};
 ghost use Rattle.tree_toml.specs.Reading.{Answers};
 ghost use Rattle.tree_toml.specs.SetupText.{grown};
 ghost use Rattle.tree_toml.specs.Kept.{AreRows};
 
 use crate::fault::TreeText;
-use cc_tree::{NodeRow, Tree, TreeError};
 use std::alloc::Global;
+use store_setup::tree::{NodeRow, Tree, TreeError};
 
 /// Returns the tree of these rows, for this number of types.
 pub fn grow(alloc: Global, rows: Vec<NodeRow>, types: u8) -> Result<Tree, TreeText>

@@ -12,9 +12,9 @@ use crate::lists::{MOST, list_at, table_entry};
 use crate::names::add_entry_name;
 use crate::steps::read_profile;
 use std::alloc::Global;
-use teb_names::Names;
+use store_setup::profile::Profile;
+use teb_rules::names::Names;
 use toml::{Table, Value};
-use txn_profile::Profile;
 
 /// The names of the types, and their profiles.
 #[derive(Drop)]

@@ -2,13 +2,13 @@
 use Rattle.std.specs.Prelude.{ℕ, ℤ, Bool, true, false, if◌then◌else◌, ◌==◌, ◌||◌, List, [], ◌∷◌, ◌++◌, length, map, get_or, codes, decimal, Option, Some, None}
 use Rattle.std.specs.List.{flat_map}
 use Rattle.std.specs.Fmt.{signed_decimal}
-use Rattle.teb_names.specs.declared.Cell.{Cell}
-use Rattle.teb_names.specs.declared.ControlKind.{ControlKind}
-use Rattle.teb_names.specs.declared.ControlKind.TheVariants.{Locks, Pipeline, Timestamp, Snapshot}
+use Rattle.teb_rules.specs.declared.names.Cell.{Cell}
+use Rattle.teb_rules.specs.declared.names.ControlKind.{ControlKind}
+use Rattle.teb_rules.specs.declared.names.ControlKind.TheVariants.{Locks, Pipeline, Timestamp, Snapshot}
 use Rattle.teb_rules.specs.Setup.{NodeRow}
 use Rattle.teb_rules.specs.Tree.{below, is_snapshot, is_timestamp, row}
 use Rattle.script_text.specs.Texts.{Words, name_of}
-use Rattle.teb_names.specs.declared.naming.NameBook.{NameBook}
+use Rattle.teb_rules.specs.declared.names.naming.NameBook.{NameBook}
 
 -- a line with a key and its value
 abbrev pub setting : List ℕ → List ℕ → List ℕ

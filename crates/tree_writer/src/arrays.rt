@@ -2,17 +2,17 @@
 
 ghost use Rattle.std.specs.Prelude.{◌≡◌, ◌++◌, OnOk, codes, map, true};
 ghost use Rattle.std.specs.List.{flat_map};
-ghost use Rattle.cc_tree.specs.Grown.{kind_numbers};
+ghost use Rattle.store_setup.specs.tree.Grown.{kind_numbers};
 ghost use Rattle.script_text.specs.Texts.{name_of};
-ghost use Rattle.txn_profile.specs.Steps.{numbers_of};
+ghost use Rattle.store_setup.specs.profile.Steps.{numbers_of};
 ghost use Rattle.tree_writer.specs.Written.{items_text, key_field, names_array, quoted, row_item, rows_setting, separator, setting, steps_array, table_field, tables_array, types_setting, value_field};
 
 use crate::settings::{put_key, put_quoted};
 use itoa::Buffer;
 use line_words::name_at;
 use std::alloc::AllocError;
-use teb_names::{Cell, Kind, Names, Table};
-use txn_profile::Profile;
+use store_setup::profile::Profile;
+use teb_rules::names::{Cell, Kind, Names, Table};
 
 /// Appends the names of all tables.
 pub(crate) fn put_tables(out: &mut Vec<u8>, tables: &Names) -> Result<(), AllocError>

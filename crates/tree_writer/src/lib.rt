@@ -41,8 +41,8 @@ use nodes::put_nodes;
 use settings::{put_header, put_name, put_number};
 use std::alloc::AllocError;
 use store_setup::Setup;
-use teb_names::{Cell, NameBook, Names};
-use txn_profile::Profile;
+use store_setup::profile::Profile;
+use teb_rules::names::{Cell, NameBook, Names};
 
 /// Appends the tree text of a setup in a format, with the given rows as its starting rows.
 pub fn put_tree_text(

@@ -2,15 +2,15 @@
 
 ghost use Rattle.std.specs.Prelude.{◌≡◌, ◌++◌, ◌<◌, OnOk, length};
 ghost use Rattle.std.specs.List.{flat_map};
-ghost use Rattle.cc_tree.specs.Grown.{parent_number, row_of};
+ghost use Rattle.store_setup.specs.tree.Grown.{parent_number, row_of};
 ghost use Rattle.teb_rules.specs.Tree.{below};
 ghost use Rattle.tree_writer.specs.Written.{batch_setting, control_word, has_batches, node_settings, node_text, order_setting, parameter_settings, parent_setting, part_settings};
 
 use crate::arrays::put_members;
 use crate::settings::{put_header, put_name, put_number, put_text};
-use cc_tree::{NodeRow, Tree};
 use std::alloc::AllocError;
-use teb_names::{ControlKind, NameBook, Names, Node};
+use store_setup::tree::{NodeRow, Tree};
+use teb_rules::names::{ControlKind, NameBook, Names, Node};
 
 /// Appends the nodes, each with its settings.
 pub(crate) fn put_nodes(out: &mut Vec<u8>, names: &NameBook, tree: &Tree) -> Result<(), AllocError>

@@ -7,7 +7,7 @@ ghost use Rattle.tree_writer.specs.Written.{header, quoted, setting};
 use itoa::Buffer;
 use line_words::name_at;
 use std::alloc::AllocError;
-use teb_names::Names;
+use teb_rules::names::Names;
 
 /// Appends the header of an entry of a list.
 pub(crate) fn put_header(out: &mut Vec<u8>, word: &str) -> Result<(), AllocError>

@@ -3,7 +3,7 @@ use Rattle.std.proofs.Common.{◌≡◌, ◌⊎◌, ℕ, zero, suc, ◌≤◌, �
 use Rattle.std.proofs.lemmas.Bool.{cases_lt, cases_order, or_right, or_from, le-leb, lt-leb}
 use Rattle.std.specs.List.{list_any}
 use Rattle.std.proofs.lemmas.List.{get_or-map, length-map}
-use Rattle.teb_names.specs.declared.Txn.{Txn}
+use Rattle.teb_rules.specs.declared.names.Txn.{Txn}
 use Rattle.version_chain.specs.Lists.{Version, writers_of, is_writer, next_place, first_place, last_place, unless_below, own_or_last}
 
 -- p fails at each place from low to below high

@@ -12,9 +12,9 @@ use Rattle.std.proofs.lemmas.List.{length-take, length-drop, length-set, get_or-
 use Rattle.std.proofs.lemmas.List.Edits.{length-insert, get_or-insert_below, get_or-insert_at, get_or-insert_above}
 use Rattle.std.proofs.lemmas.List.Kept.{IsSortedBy-filter}
 use Rattle.std.proofs.lemmas.List.Sorted.{searchable_from_sorted, ranks_by}
-use Rattle.teb_names.specs.declared.Cell.{Cell}
-use Rattle.teb_names.specs.declared.Txn.{Txn}
-use Rattle.teb_names.specs.Cells.{same_cell}
+use Rattle.teb_rules.specs.declared.names.Cell.{Cell}
+use Rattle.teb_rules.specs.declared.names.Txn.{Txn}
+use Rattle.teb_rules.specs.names.Cells.{same_cell}
 use Rattle.version_chain.specs.declared.sorted.Stored.{Stored}
 use Rattle.version_chain.specs.CellOrder.{cell_cmp}
 use Rattle.version_chain.specs.Lists.{Version, set_value, without}

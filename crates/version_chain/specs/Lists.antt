@@ -1,7 +1,7 @@
 -- Chains as lists: the versions of a cell, each a writer and a value, in version order.
 use Rattle.std.specs.Prelude.{ℕ, zero, suc, Bool, not, nat_le, eqb, if◌then◌else◌, List, [], ◌∷◌, map, filter, Option, Some, None, ℤ}
 use Rattle.std.specs.List.{list_any}
-use Rattle.teb_names.specs.declared.Txn.{Txn}
+use Rattle.teb_rules.specs.declared.names.Txn.{Txn}
 
 -- a writer and its value, None if it deleted the row
 abbrev pub Version : Type 0

@@ -2,8 +2,8 @@
 use Rattle.std.specs.Prelude.{◌≡◌, ℕ, ◌+◌, ◌<◌, ◌≤◌, List, length, map, filter, slice_index_or}
 use Rattle.std.specs.declared.cmp.Ordering.TheVariants.{Less, Greater}
 use Rattle.std.specs.List.Sorted.{IsSortedByKey}
-use Rattle.teb_names.specs.declared.Cell.{Cell}
-use Rattle.teb_names.specs.Cells.{same_cell}
+use Rattle.teb_rules.specs.declared.names.Cell.{Cell}
+use Rattle.teb_rules.specs.names.Cells.{same_cell}
 use Rattle.version_chain.specs.declared.sorted.Stored.{Stored}
 use Rattle.version_chain.specs.Lists.{Version}
 use Rattle.version_chain.specs.CellOrder.{cell_cmp}

@@ -2,13 +2,13 @@
 
 ghost use Rattle.std.specs.Prelude.{◌≡◌, ◌<◌, ◌≤◌, ◌+◌, ℕ, ℤ, Option, List, Bool, length, insert, slice_get, eqb, OnOk, IfSome, IsTrue, IsFalse, Some};
 ghost use Rattle.std.specs.Option.{option_map};
-ghost use Rattle.teb_names.specs.declared.Cell.{Cell};
-ghost use Rattle.teb_names.specs.declared.Txn.{Txn};
-ghost use Rattle.teb_names.specs.Cells.{same_cell};
+ghost use Rattle.teb_rules.specs.declared.names.Cell.{Cell};
+ghost use Rattle.teb_rules.specs.declared.names.Txn.{Txn};
+ghost use Rattle.teb_rules.specs.names.Cells.{same_cell};
 ghost use Rattle.version_chain.specs.Lists.{writers_of, is_writer, first_place, last_place, unless_below, own_or_last as spec_own_or_last, set_value, without};
 
 use std::alloc::AllocError;
-use teb_names::{Cell, Txn};
+use teb_rules::names::{Cell, Txn};
 
 /// A version that was found, and its place in the chain of its cell.
 #[derive(Clone, Copy)]

@@ -7,7 +7,7 @@ use crate::chains::Chains;
 use crate::sorted::{Stored, chain, last_accepted, place_of, range_of};
 use std::alloc::{AllocError, Global};
 use std::marker::Model;
-use teb_names::{Cell, Txn};
+use teb_rules::names::{Cell, Txn};
 
 /// Versions in one vector, sorted by cell and, within a cell, in version order. Inserting or removing a version moves
 /// those after it: plain to read, and slow if there are many.

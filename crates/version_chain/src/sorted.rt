@@ -1,11 +1,11 @@
 //! Stored versions in one slice, sorted by cell and, within a cell, in version order.
 
 ghost use Rattle.std.specs.Prelude.{◌≡◌, ◌<◌, ℕ, Bool, length, map, IfSome, IsTrue, eqb};
-ghost use Rattle.teb_names.specs.declared.Txn.{Txn};
+ghost use Rattle.teb_rules.specs.declared.names.Txn.{Txn};
 ghost use Rattle.version_chain.specs.Lists.{writers_of, is_writer, first_place, last_place, unless_below};
 ghost use Rattle.version_chain.specs.Stored.{IsSortedByCell, IsRange, of_cell, version};
 
-use teb_names::{Cell, Txn};
+use teb_rules::names::{Cell, Txn};
 
 /// A version with its cell.
 #[derive(Clone, Copy)]

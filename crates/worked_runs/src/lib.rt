@@ -13,5 +13,5 @@
 //! | `Further` | profiles, locks below locks, a session that is told of a cascade, Late, First and Newer at a root |
 //! | `Shop` | eight scripts over the tree of a shop, asked by the driver |
 //!
-//! **Not claimed**: anything beyond these runs. What holds of every run is in `teb_laws`.
+//! **Not claimed**: anything beyond these runs. What holds of every run is in `teb_rules::laws`.
 #![tactic(auto)]

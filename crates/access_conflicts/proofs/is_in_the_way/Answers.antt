@@ -1,10 +1,10 @@
 use Rattle.std.proofs.Common.{◌≡◌, ℕ, ◌&&◌, ◌||◌, Bool, true, false, eqb, List, inl, inr, sym, ◌∙◌, ap}
 use Rattle.std.proofs.lemmas.Bool.{cases_Bool, eqb-true}
-use Rattle.teb_names.proofs.Bools.{and_false}
-use Rattle.teb_history.specs.declared.Event.{Event}
+use Rattle.teb_rules.proofs.lemmas.names.Bools.{and_false}
+use Rattle.teb_rules.specs.declared.history.Event.{Event}
 use Rattle.teb_rules.specs.Setup.{Setup}
 use Rattle.teb_rules.specs.Tree.{meets, side}
-use Rattle.teb_laws.proofs.Nodes.{meets_parts}
+use Rattle.teb_rules.proofs.lemmas.laws.Nodes.{meets_parts}
 use Rattle.phase_api.specs.FactsView.{setup_of, events_of}
 use Rattle.access_conflicts.proofs.is_in_the_way.Goals as goal
 

@@ -2,7 +2,7 @@
 
 ghost use Rattle.std.specs.Prelude.{ℕ, ◌≡◌, ◌≤◌, ◌+◌, max, cond, eqb};
 ghost use Rattle.std.specs.Result.{is_err};
-ghost use Rattle.teb_history.specs.Ascending.{IsAscendingBy, place_of, put_by};
+ghost use Rattle.teb_rules.specs.history.Ascending.{IsAscendingBy, place_of, put_by};
 ghost use Rattle.arena_multimap.specs.Arenas.{list_at, lists, IsArena, HasRoom};
 
 use super::Arena;

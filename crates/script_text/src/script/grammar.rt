@@ -14,7 +14,7 @@ use super::verbs::{
 };
 use super::words::first_words;
 use crate::{Line, LineWhy};
-use teb_names::{Cell, Kind, Request, SESSIONS, Session, Spot, Table};
+use teb_rules::names::{Cell, Kind, Request, SESSIONS, Session, Spot, Table};
 
 /// The words that may follow a session.
 #[derive(Clone, Copy)]

@@ -1,14 +1,14 @@
 //! Names in a script.
 
 ghost use Rattle.std.specs.Prelude.{◌≡◌, IsTrue, MatchOption, length, true, false};
-ghost use Rattle.teb_names.specs.Names.{is_name};
+ghost use Rattle.teb_rules.specs.names.Names.{is_name};
 ghost use Rattle.script_text.specs.Grammar.{name_at};
 ghost use Rattle.script_text.specs.Words.{nows};
 ghost use Rattle.script_text.specs.AtHand.{AreNumbered};
 
 use crate::LineWhy;
 use std::marker::Model;
-use teb_names::{NameBook, Names, is_name};
+use teb_rules::names::{NameBook, Names, is_name};
 
 /// How many names of a list are kept at hand.
 const FEW: usize = 4;
@@ -90,7 +90,7 @@ pub struct BookAtHand<'a> {
 
 impl<'a> Model for BookAtHand<'a> {
     ghost use Rattle.std.specs.Prelude.{◌≡◌};
-    ghost use Rattle.teb_names.specs.declared.naming.NameBook.{NameBook};
+    ghost use Rattle.teb_rules.specs.declared.names.naming.NameBook.{NameBook};
 
     ghost Value = { NameBook };
 

@@ -10,8 +10,8 @@ ghost use Rattle.script_text.specs.Ranges.{EventInRange};
 use super::reply::put_cause;
 use super::word::{Word, kind, put_cell, put_feed, put_text, put_words, whole};
 use std::alloc::AllocError;
-use teb_history::Event;
-use teb_names::{NameBook, Txn};
+use teb_rules::history::Event;
+use teb_rules::names::{NameBook, Txn};
 
 /// Appends the line of an event. Out of memory, it appends nothing.
 #[tactic(auto, using(crate::proofs::Wholes::kept, crate::proofs::Wholes::taken_back))]

@@ -10,7 +10,7 @@ use super::tail::Tail;
 use super::word::{Word, node, put_cell, put_feed, put_text, put_words, whole};
 use short_reply::ShortReply;
 use std::alloc::AllocError;
-use teb_names::{Cause, NameBook, Node, Refusal, Reply, ScanList, Session, Txn};
+use teb_rules::names::{Cause, NameBook, Node, Refusal, Reply, ScanList, Session, Txn};
 
 /// Appends the line of a reply. Out of memory, it appends nothing.
 pub fn put_reply(

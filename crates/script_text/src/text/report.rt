@@ -2,7 +2,7 @@
 
 ghost use Rattle.std.specs.Prelude.{◌≡◌, ◌++◌, ◌∷◌, [], All, IsTrue, OnOk, OnErr, codes, decimal, map};
 ghost use Rattle.std.specs.Fmt.{signed_decimal};
-ghost use Rattle.teb_names.specs.Rows.{IsAscending};
+ghost use Rattle.teb_rules.specs.names.Rows.{IsAscending};
 ghost use Rattle.script_text.specs.Texts.{line_text, recovered_text, report_text, row_text, rows_text, starts_text, txn_text};
 ghost use Rattle.script_text.specs.Named.{CellNamed, RowsNamed};
 ghost use Rattle.script_text.specs.Puts.{Puts, spaced};
@@ -11,7 +11,7 @@ ghost use Rattle.script_text.specs.Ranges.{RowInRange};
 use super::tail::Tail;
 use super::word::{Word, put_feed, put_line, put_spaced, put_text, table, whole};
 use std::alloc::AllocError;
-use teb_names::{Cell, NameBook, Rows, Txn};
+use teb_rules::names::{Cell, NameBook, Rows, Txn};
 
 /// Appends a report: the serial order, the final rows, and the end. Out of memory, it appends nothing.
 #[tactic(auto, using(crate::proofs::Wholes::kept, crate::proofs::Wholes::taken_back))]

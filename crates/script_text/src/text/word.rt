@@ -7,7 +7,7 @@ ghost use Rattle.script_text.specs.Puts.{Puts, spaced, spaced_words, word_text};
 
 use super::tail::Tail;
 use std::alloc::AllocError;
-use teb_names::{Cell, Kind, NameBook, Node, Session, Table, Txn};
+use teb_rules::names::{Cell, Kind, NameBook, Node, Session, Table, Txn};
 
 /// A word of a line.
 #[derive(Clone, Copy)]

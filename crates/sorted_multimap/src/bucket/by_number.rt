@@ -2,13 +2,13 @@
 
 ghost use Rattle.std.specs.Prelude.{◌≡◌, ◌==◌, ◌||◌, cond, eqb, filter, length, not, IsTrue, IsFalse, MatchResult};
 ghost use Rattle.std.specs.Result.{is_err};
-ghost use Rattle.teb_history.specs.Ascending.{IsAscendingBy, place_of, put_by};
+ghost use Rattle.teb_rules.specs.history.Ascending.{IsAscendingBy, place_of, put_by};
 ghost use Rattle.sorted_multimap.specs.Buckets.{bucket_values, IsSorted, HasRoom, IsEdited};
 ghost use Rattle.sorted_multimap.specs.Places.{IsFound, IsMissing};
 
 use super::Bucket;
 use crate::{Numbered, find_number};
-use vec_room::take_out;
+use teb_rules::vectors::take_out;
 
 impl<K: Ord + Copy, V: Numbered> Bucket<K, V> {
     /// Inserts a value among those of a key, or replaces the one with the same number. Returns true if it was inserted. Into an empty bucket

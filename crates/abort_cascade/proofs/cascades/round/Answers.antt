@@ -1,5 +1,5 @@
 use Rattle.std.proofs.Common.{◌++◌, ◌∷◌, [], ◌∙◌, ap, sym, arith, append-nil, take, get_or, length, List, Option}
-use Rattle.teb_names.specs.declared.Txn.{Txn}
+use Rattle.teb_rules.specs.declared.names.Txn.{Txn}
 use Rattle.abort_cascade.specs.Rounds.{with_culprit, round_of}
 use Rattle.abort_cascade.proofs.RoundsOf.{round_more, round_room}
 use Rattle.abort_cascade.proofs.cascades.round.Goals as goal

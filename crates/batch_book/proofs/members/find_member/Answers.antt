@@ -1,6 +1,6 @@
 use Rattle.std.proofs.Common.{◌∙◌, sym, rules}
 use Rattle.std.proofs.lemmas.Bool.{eqb-true}
-use Rattle.teb_history.proofs.AscendingLists.{found_at, place_in}
+use Rattle.teb_rules.proofs.lemmas.history.AscendingLists.{found_at, place_in}
 use Rattle.batch_book.specs.Fields.{member_number}
 use Rattle.batch_book.proofs.Elements.{placed, unplaced}
 use Rattle.batch_book.proofs.members.find_member.Goals as goal

@@ -1,6 +1,6 @@
 use Rattle.std.proofs.Common.{rules}
 use Rattle.std.proofs.lemmas.List.Sorted.{answers_always}
-use Rattle.teb_history.proofs.AscendingLists.{searched}
+use Rattle.teb_rules.proofs.lemmas.history.AscendingLists.{searched}
 use Rattle.batch_book.specs.Fields.{member_number}
 use Rattle.batch_book.proofs.members.search_member.Goals as goal
 

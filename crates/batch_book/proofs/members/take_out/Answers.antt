@@ -1,6 +1,6 @@
 use Rattle.std.proofs.Common.{◌∙◌, List, Some, sym, ap, subst, rules}
-use Rattle.teb_history.specs.Ascending.{IsAscendingBy, place_of}
-use Rattle.teb_history.proofs.AscendingLists.{place_in, remove-filter}
+use Rattle.teb_rules.specs.history.Ascending.{IsAscendingBy, place_of}
+use Rattle.teb_rules.proofs.lemmas.history.AscendingLists.{place_in, remove-filter}
 use Rattle.batch_book.specs.declared.members.Member.{Member}
 use Rattle.batch_book.specs.Fields.{member_number}
 use Rattle.batch_book.proofs.Elements.{placed, unplaced}

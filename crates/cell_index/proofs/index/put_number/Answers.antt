@@ -1,5 +1,5 @@
 use Rattle.std.proofs.Common.{◌∙◌, sym, ap, if◌then◌else◌}
-use Rattle.teb_names.specs.Cells.{same_cell}
+use Rattle.teb_rules.specs.names.Cells.{same_cell}
 use Rattle.cell_index.specs.Index.{far_number}
 use Rattle.cell_index.proofs.Numbers.{number_far}
 use Rattle.cell_index.proofs.index.put_number.Goals as goal

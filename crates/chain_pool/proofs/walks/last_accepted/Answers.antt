@@ -1,5 +1,5 @@
 use Rattle.std.proofs.Common.{◌≡◌, ◌<◌, ◌-◌, ◌+◌, suc, ap, sym, subst, ◌∙◌, arith, length, true, false, IsSome}
-use Rattle.teb_names.specs.declared.Txn.{Txn}
+use Rattle.teb_rules.specs.declared.names.Txn.{Txn}
 use Rattle.chain_pool.specs.Threads.{steps}
 use Rattle.chain_pool.specs.Places.{previous_at, slot_at, pair_at}
 use Rattle.chain_pool.proofs.walks.last_accepted.Goals as goal

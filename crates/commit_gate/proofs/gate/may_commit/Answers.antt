@@ -1,8 +1,8 @@
 use Rattle.std.proofs.Common.{◌≡◌, false, true, ◌<◌, ◌∙◌, sym, ap, subst}
-use Rattle.teb_names.specs.declared.Spot.{Spot}
+use Rattle.teb_rules.specs.declared.names.Spot.{Spot}
 use Rattle.teb_rules.specs.Tree.{path}
 use Rattle.teb_rules.specs.Stops.{commit_stop, on_commit, stop_of}
-use Rattle.teb_laws.proofs.Sound.{tree_facts}
+use Rattle.teb_rules.proofs.lemmas.laws.Sound.{tree_facts}
 use Rattle.phase_api.specs.FactsView.{setup_of, events_of}
 use Rattle.dependency_book.proofs.OrderlyHistories.{unfinished_parts}
 use Rattle.dependency_book.proofs.Sources.{sources_standing}

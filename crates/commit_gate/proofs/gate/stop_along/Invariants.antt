@@ -1,6 +1,6 @@
 use Rattle.std.proofs.Common.{◌≡◌, drop}
 use Rattle.teb_rules.specs.Stops.{on_commit, stop_of}
-use Rattle.cc_tree.specs.Grown.{node_numbers}
+use Rattle.store_setup.specs.tree.Grown.{node_numbers}
 use Rattle.phase_api.specs.FactsView.{setup_of, events_of}
 use Rattle.commit_gate.proofs.gate.stop_along.Given as goal
 

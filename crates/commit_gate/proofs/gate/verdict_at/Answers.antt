@@ -1,6 +1,6 @@
 use Rattle.std.proofs.Common.{◌≡◌, ℕ, ◌∙◌, ◌&&◌, ◌||◌, sym, ap, find}
-use Rattle.teb_history.specs.Phases.{txns, unfinished}
-use Rattle.teb_history.specs.Accesses.{read_from}
+use Rattle.teb_rules.specs.history.Phases.{txns, unfinished}
+use Rattle.teb_rules.specs.history.Accesses.{read_from}
 use Rattle.teb_rules.specs.Tree.{row, meets}
 use Rattle.teb_rules.specs.Controls.{validate, gate}
 use Rattle.teb_rules.specs.Stops.{on_commit}

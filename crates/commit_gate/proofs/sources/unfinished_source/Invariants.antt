@@ -1,6 +1,6 @@
 use Rattle.std.proofs.Common.{◌≡◌, ◌&&◌, take, find, None}
-use Rattle.teb_names.specs.declared.Txn.{Txn}
-use Rattle.teb_history.specs.Phases.{unfinished}
+use Rattle.teb_rules.specs.declared.names.Txn.{Txn}
+use Rattle.teb_rules.specs.history.Phases.{unfinished}
 use Rattle.teb_rules.specs.Tree.{meets}
 use Rattle.phase_api.specs.FactsView.{setup_of, events_of}
 use Rattle.commit_gate.proofs.sources.unfinished_source.Given as goal

@@ -1,5 +1,5 @@
 use Rattle.std.proofs.Common.{List, sym, ◌∙◌, ap}
-use Rattle.teb_history.specs.declared.Event.{Event}
+use Rattle.teb_rules.specs.declared.history.Event.{Event}
 use Rattle.commit_laws.specs.Records.{puts_of}
 use Rattle.commit_journal.specs.Kept.{committing}
 use Rattle.commit_journal.proofs.Asked.{txn_of_some, committing_unfinished}

@@ -1,6 +1,6 @@
 use Rattle.std.proofs.Common.{ℕ, List, eqb, Some, None, sym, ◌∙◌, ap, arith}
 use Rattle.std.proofs.lemmas.List.{length-map}
-use Rattle.teb_history.specs.declared.Event.{Event}
+use Rattle.teb_rules.specs.declared.history.Event.{Event}
 use Rattle.version_chain.specs.Lists.{last_place, writers_of}
 use Rattle.candidate_reads.proofs.InOrder.{is_last}
 use Rattle.candidate_reads.proofs.Sources.{at-writer}

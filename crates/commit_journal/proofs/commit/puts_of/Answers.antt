@@ -1,6 +1,6 @@
 use Rattle.std.proofs.Common.{◌≡◌, List, sym, subst, rules}
-use Rattle.teb_history.specs.declared.Event.{Event}
-use Rattle.teb_history.specs.OwnEvents.{own_events}
+use Rattle.teb_rules.specs.declared.history.Event.{Event}
+use Rattle.teb_rules.specs.history.OwnEvents.{own_events}
 use Rattle.record_journal.specs.Format.{Record}
 use Rattle.commit_laws.specs.Records.{puts_of}
 use Rattle.commit_journal.specs.Kept.{AreCells}

@@ -1,5 +1,5 @@
 use Rattle.std.proofs.Common.{◌≡◌, ◌+◌, List, length, refl, arith, rules}
-use Rattle.teb_names.specs.declared.Reply.TheVariants.{Committed}
+use Rattle.teb_rules.specs.declared.names.Reply.TheVariants.{Committed}
 use Rattle.crash_disk.specs.Disk.{LeavesOnly}
 use Rattle.crash_disk.specs.Sizes.{default_capacity}
 use Rattle.record_journal.specs.Format.{Record, recovered, Whole}

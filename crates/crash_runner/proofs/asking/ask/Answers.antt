@@ -1,7 +1,7 @@
 use Rattle.std.proofs.Common.{inl, inr, ◌∙◌, ◌≤◌, ◌+◌, ◌++◌, ◌∷◌, [], List, sym, ap, subst, arith}
 use Rattle.std.proofs.lemmas.Bool.{both_ways}
-use Rattle.teb_names.specs.declared.Reply.{Reply}
-use Rattle.teb_history.specs.declared.Event.{Event}
+use Rattle.teb_rules.specs.declared.names.Reply.{Reply}
+use Rattle.teb_rules.specs.declared.history.Event.{Event}
 use Rattle.commit_journal.specs.Kept.{Kept}
 use Rattle.crash_runner.specs.Underway.{IsUnderway, effects, weight}
 use Rattle.crash_runner.proofs.Effects.{adds_few}

@@ -2,7 +2,7 @@ use Rattle.std.proofs.Common.{◌≡◌, ◌∙◌, ◌+◌, ◌≤◌, ◌++◌
 use Rattle.std.specs.Prelude.{◌↔◌, true}
 use Rattle.std.proofs.lemmas.Result.{err_from_is_err_and}
 use Rattle.crash_disk.specs.Calls.{Promise}
-use Rattle.replay_runner.specs.Holders.{end_of}
+use Rattle.script_runner.specs.replay.Holders.{end_of}
 use Rattle.crash_runner.specs.declared.halt.Halt.{Halt}
 use Rattle.crash_runner.specs.declared.halt.Halt.TheVariants as halts
 use Rattle.crash_runner.specs.Underway.{IsUnderway, effects}

@@ -1,7 +1,7 @@
 use Rattle.std.proofs.Common.{◌≡◌, ◌≤◌, map, take}
 use Rattle.script_text.specs.declared.input.TheConstants.{MOST_LINES}
 use Rattle.commit_journal.specs.Kept.{IsSameStore}
-use Rattle.replay_runner.specs.Holders.{end_of}
+use Rattle.script_runner.specs.replay.Holders.{end_of}
 use Rattle.crash_runner.specs.Underway.{IsUnderway, HasAsked, effects}
 use Rattle.crash_runner.proofs.ends.ask_ends.Given as goal
 

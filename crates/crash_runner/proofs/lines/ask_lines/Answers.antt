@@ -2,7 +2,7 @@ use Rattle.std.proofs.Common.{◌≡◌, ◌∙◌, ◌+◌, ◌++◌, refl, sym
 use Rattle.std.specs.Prelude.{◌↔◌, true}
 use Rattle.std.proofs.lemmas.Result.{err_from_is_err_and}
 use Rattle.crash_disk.specs.Calls.{Promise}
-use Rattle.replay_runner.specs.Logs.{request_of}
+use Rattle.script_runner.specs.replay.Logs.{request_of}
 use Rattle.crash_runner.specs.declared.halt.Halt.{Halt}
 use Rattle.crash_runner.specs.declared.halt.Halt.TheVariants as halts
 use Rattle.crash_runner.specs.Underway.{IsUnderway}

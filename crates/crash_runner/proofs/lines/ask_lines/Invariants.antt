@@ -1,6 +1,6 @@
 use Rattle.std.proofs.Common.{◌≡◌, ◌≤◌, ◌+◌, take}
 use Rattle.commit_journal.specs.Kept.{IsSameStore}
-use Rattle.replay_runner.specs.Logs.{requests_of}
+use Rattle.script_runner.specs.replay.Logs.{requests_of}
 use Rattle.crash_runner.specs.Underway.{IsUnderway, HasAsked, effects}
 use Rattle.crash_runner.proofs.lines.ask_lines.Given as goal
 

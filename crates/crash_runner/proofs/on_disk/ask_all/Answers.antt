@@ -1,13 +1,13 @@
 use Rattle.std.proofs.Common.{◌≡◌, ◌∙◌, ◌++◌, [], List, ap, subst, subst₂, arith, map}
 use Rattle.std.proofs.lemmas.List.{append-nil}
-use Rattle.teb_history.specs.declared.Event.{Event}
+use Rattle.teb_rules.specs.declared.history.Event.{Event}
 use Rattle.teb_rules.specs.Setup.{Store}
 use Rattle.teb_rules.specs.Run.{history_after, ends_of}
 use Rattle.crash_disk.specs.Calls.{Promise}
 use Rattle.script_text.specs.declared.Answered.{Answered}
-use Rattle.replay_runner.specs.Holders.{end_of}
-use Rattle.replay_runner.specs.Logs.{Requests, log_of, requests_of}
-use Rattle.replay_runner.proofs.Holders.{ends_of_holders}
+use Rattle.script_runner.specs.replay.Holders.{end_of}
+use Rattle.script_runner.specs.replay.Logs.{Requests, log_of, requests_of}
+use Rattle.script_runner.proofs.lemmas.replay.Holders.{ends_of_holders}
 use Rattle.crash_runner.specs.Underway.{HasAsked, StopsAt}
 use Rattle.crash_runner.proofs.Along.{whole_asked, whole_stops}
 use Rattle.crash_runner.proofs.Halting.{on_ok}

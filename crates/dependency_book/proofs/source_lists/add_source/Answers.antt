@@ -1,7 +1,7 @@
 use Rattle.std.proofs.Common.{◌-◌, sym, subst, arith}
-use Rattle.teb_history.specs.Ascending.{IsAscendingBy, put_by}
-use Rattle.teb_history.specs.Live.{number_of}
-use Rattle.teb_history.proofs.AscendingLists.{ascending-put}
+use Rattle.teb_rules.specs.history.Ascending.{IsAscendingBy, put_by}
+use Rattle.teb_rules.specs.history.Live.{number_of}
+use Rattle.teb_rules.proofs.lemmas.history.AscendingLists.{ascending-put}
 use Rattle.arena_multimap.specs.NumberedLists.{list_in}
 use Rattle.dependency_book.specs.Books.{SourcesAscend}
 use Rattle.dependency_book.proofs.SourceLists.{list_before, set_ascends}

@@ -1,7 +1,7 @@
 use Rattle.std.proofs.Common.{◌≡◌, ℕ, suc, ◌-◌, sym, ap, subst, List, drop, arith}
-use Rattle.teb_history.specs.declared.Event.{Event}
-use Rattle.teb_laws.proofs.Answers.{lawful_cons}
-use Rattle.teb_laws.proofs.Sound.{tree_facts}
+use Rattle.teb_rules.specs.declared.history.Event.{Event}
+use Rattle.teb_rules.proofs.lemmas.laws.Answers.{lawful_cons}
+use Rattle.teb_rules.proofs.lemmas.laws.Sound.{tree_facts}
 use Rattle.phase_api.specs.Calls.{MayNote}
 use Rattle.dependency_book.proofs.LawfulHistories.{granted_follows}
 use Rattle.store_setup.specs.Stores.{store_of}

@@ -1,7 +1,7 @@
 use Rattle.std.proofs.Common.{rules, ℤ, Some, sym, ◌∙◌, ap, w64}
 use Rattle.std.specs.Prelude.{FitsSigned}
 use Rattle.std.proofs.lemmas.Int.{to_z-of_z}
-use Rattle.teb_names.specs.declared.Request.{Request}
+use Rattle.teb_rules.specs.declared.names.Request.{Request}
 use Rattle.teb_rules.specs.Answer.{answer_of, or_refused, put_value}
 use Rattle.engine_core.specs.Decisions.{carried}
 use Rattle.engine_core.specs.Views.{store_in, events_in}

@@ -1,5 +1,5 @@
 use Rattle.std.proofs.Common.{subst, ap, ◌∙◌}
-use Rattle.teb_history.specs.Written.{Written}
+use Rattle.teb_rules.specs.history.Written.{Written}
 use Rattle.teb_rules.specs.Setup.{Setup}
 use Rattle.phase_api.specs.FactsView.{setup_of}
 use Rattle.phase_api.specs.Standing.{StandAll}

@@ -1,11 +1,11 @@
 use Rattle.std.proofs.Common.{◌≡◌, ◌<◌, ℕ, Some, slice_get, sym, ap, subst, ◌∙◌, arith, List, length}
 use Rattle.std.proofs.lemmas.List.{length-map}
-use Rattle.teb_names.specs.declared.TheConstants.{SESSIONS}
-use Rattle.teb_names.specs.declared.Txn.{Txn}
-use Rattle.teb_history.specs.Written.{Written}
+use Rattle.teb_rules.specs.declared.names.TheConstants.{SESSIONS}
+use Rattle.teb_rules.specs.declared.names.Txn.{Txn}
+use Rattle.teb_rules.specs.history.Written.{Written}
 use Rattle.teb_rules.specs.Cascade.{cascade, blamed, txn}
-use Rattle.teb_laws.proofs.Sound.{tree_facts}
-use Rattle.teb_laws.proofs.Sessions.{cascade_few}
+use Rattle.teb_rules.proofs.lemmas.laws.Sound.{tree_facts}
+use Rattle.teb_rules.proofs.lemmas.laws.Sessions.{cascade_few}
 use Rattle.abort_cascade.specs.Recoverable.{IsRecoverable}
 use Rattle.abort_cascade.specs.Rounds.{blames}
 use Rattle.abort_cascade.proofs.LawfulCascades.{good_recoverable}

@@ -1,13 +1,13 @@
 use Rattle.std.proofs.Common.{◌≡◌, ◌∙◌, Bool, true, false, cond, List, Some, None, sym, ap}
 use Rattle.std.proofs.lemmas.Bool.{or_left}
-use Rattle.teb_names.specs.declared.Txn.{Txn}
-use Rattle.teb_names.specs.declared.Session.{Session}
-use Rattle.teb_history.specs.declared.Event.{Event}
-use Rattle.teb_history.specs.Phases.{unfinished, untold}
-use Rattle.teb_history.specs.Live.{is_live}
-use Rattle.teb_history.specs.Written.{held_txn}
+use Rattle.teb_rules.specs.declared.names.Txn.{Txn}
+use Rattle.teb_rules.specs.declared.names.Session.{Session}
+use Rattle.teb_rules.specs.declared.history.Event.{Event}
+use Rattle.teb_rules.specs.history.Phases.{unfinished, untold}
+use Rattle.teb_rules.specs.history.Live.{is_live}
+use Rattle.teb_rules.specs.history.Written.{held_txn}
 use Rattle.teb_rules.specs.Setup.{Setup}
-use Rattle.teb_laws.specs.Lawful.{Lawful}
+use Rattle.teb_rules.specs.laws.Lawful.{Lawful}
 use Rattle.engine_core.specs.Latest.{latest_txn}
 use Rattle.engine_core.specs.Views.{store_in, events_in}
 use Rattle.engine_core.proofs.HeldTxns.{held_txn-latest}

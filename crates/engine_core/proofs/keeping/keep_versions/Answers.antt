@@ -1,5 +1,5 @@
 use Rattle.std.proofs.Common.{sym, ◌∙◌, subst}
-use Rattle.teb_history.specs.declared.Event.{Event}
+use Rattle.teb_rules.specs.declared.history.Event.{Event}
 use Rattle.engine_core.specs.Keeping.{HasPlace}
 use Rattle.engine_core.proofs.VersionSteps.{place_within, after_overwrite, after_place, after_removal, after_others}
 use Rattle.engine_core.proofs.keeping.keep_versions.Goals as goal

@@ -1,7 +1,7 @@
 use Rattle.std.proofs.Common.{◌≡◌, ◌∙◌, ◌<◌, sym, ap, subst, suc, arith, List, length, get_or, slice_get, Some}
 use Rattle.std.proofs.lemmas.List.{take_at}
 use Rattle.std.proofs.lemmas.Option.{slice_get_within}
-use Rattle.teb_history.specs.Written.{Written}
+use Rattle.teb_rules.specs.history.Written.{Written}
 use Rattle.phase_api.specs.Standing.{StandAll}
 use Rattle.store_setup.specs.Stores.{store_of}
 use Rattle.engine_core.specs.Wholes.{RoomFor}

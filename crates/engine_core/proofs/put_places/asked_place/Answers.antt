@@ -1,17 +1,17 @@
 use Rattle.std.proofs.Common.{◌≡◌, inl, inr, ℕ, Bool, true, false, List, [], ◌∷◌, eqb, eqb-true, sym, ◌∙◌, subst}
 use Rattle.std.specs.List.{list_any}
 use Rattle.std.proofs.lemmas.Bool.{or_cases, or_parts}
-use Rattle.teb_history.specs.Phases.{spot_of}
+use Rattle.teb_rules.specs.history.Phases.{spot_of}
 use Rattle.teb_rules.specs.Setup.{among}
 use Rattle.teb_rules.specs.Tree.{row, is_timestamp, on_path}
-use Rattle.cc_tree.specs.Grown.{node_numbers}
+use Rattle.store_setup.specs.tree.Grown.{node_numbers}
 use Rattle.engine_core.proofs.Running.{unfinished_kept}
 use Rattle.commit_gate.proofs.CommitWaits.{typed_now}
 use Rattle.phase_api.specs.FactsView.{events_of}
-use Rattle.teb_history.specs.Accesses.{wrote}
-use Rattle.teb_history.specs.Phases.{unfinished}
+use Rattle.teb_rules.specs.history.Accesses.{wrote}
+use Rattle.teb_rules.specs.history.Phases.{unfinished}
 use Rattle.std.proofs.lemmas.Bool.{or_right}
-use Rattle.teb_laws.proofs.Sound.{tree_facts}
+use Rattle.teb_rules.proofs.lemmas.laws.Sound.{tree_facts}
 use Rattle.engine_core.specs.Views.{store_in, events_in}
 use Rattle.engine_core.proofs.Along.{within}
 use Rattle.engine_core.proofs.put_places.asked_place.Goals as goal

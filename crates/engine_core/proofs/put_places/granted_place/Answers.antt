@@ -1,7 +1,7 @@
-use Rattle.teb_laws.proofs.Sound.{tree_facts}
+use Rattle.teb_rules.proofs.lemmas.laws.Sound.{tree_facts}
 use Rattle.std.proofs.lemmas.Bool.{or_right}
-use Rattle.teb_history.specs.Phases.{unfinished}
-use Rattle.teb_history.specs.Accesses.{wrote}
+use Rattle.teb_rules.specs.history.Phases.{unfinished}
+use Rattle.teb_rules.specs.history.Accesses.{wrote}
 use Rattle.engine_core.specs.Views.{events_in}
 use Rattle.commit_gate.proofs.CommitWaits.{typed_now}
 use Rattle.engine_core.proofs.Running.{unfinished_kept}

@@ -1,6 +1,6 @@
 use Rattle.std.proofs.Common.{◌≡◌, drop}
 use Rattle.teb_rules.specs.Stops.{stop_of}
-use Rattle.cc_tree.specs.Grown.{node_numbers}
+use Rattle.store_setup.specs.tree.Grown.{node_numbers}
 use Rattle.engine_core.specs.Questions.{verdict_on}
 use Rattle.engine_core.specs.Views.{store_in, events_in}
 use Rattle.engine_core.proofs.questions.first_stop.Given as goal

@@ -1,5 +1,5 @@
 use Rattle.std.proofs.Common.{◌≡◌, ℕ, false, sym, ◌∙◌, ap, arith}
-use Rattle.teb_names.specs.declared.Cell.{Cell}
+use Rattle.teb_rules.specs.declared.names.Cell.{Cell}
 use Rattle.teb_rules.specs.Stops.{access_stop, scan_stop}
 use Rattle.engine_core.specs.Views.{store_in, events_in}
 use Rattle.engine_core.proofs.Gathering.{rest_of, rest_first, stop_none, goes_on, stops_here}

@@ -1,5 +1,5 @@
 use Rattle.std.proofs.Common.{true}
-use Rattle.teb_history.specs.Phases.{spot_of}
+use Rattle.teb_rules.specs.history.Phases.{spot_of}
 use Rattle.commit_gate.proofs.CommitWaits.{typed_now}
 use Rattle.engine_core.specs.declared.questions.Question.TheVariants as question
 use Rattle.engine_core.specs.Views.{store_in, events_in}

@@ -1,6 +1,6 @@
 use Rattle.std.proofs.Common.{ℕ, ◌<◌, ℤ}
 use Rattle.std.specs.Prelude.{slice_index_or}
-use Rattle.teb_names.specs.declared.Cell.{Cell}
+use Rattle.teb_rules.specs.declared.names.Cell.{Cell}
 use Rattle.engine_store.proofs.found.are_of_tables.Given as goal
 
 abbrev pub invariant-loop-row : goal.invariant-loop-row

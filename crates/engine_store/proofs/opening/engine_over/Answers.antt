@@ -1,5 +1,5 @@
 use Rattle.std.proofs.Common.{◌≡◌, List, length, ℤ, sym, ◌∙◌, ap, subst}
-use Rattle.teb_names.specs.declared.Cell.{Cell}
+use Rattle.teb_rules.specs.declared.names.Cell.{Cell}
 use Rattle.teb_rules.specs.Setup.{Store}
 use Rattle.store_setup.specs.Stores.{store_of}
 use Rattle.epoch_journal.proofs.Telling.{if_ok_one}

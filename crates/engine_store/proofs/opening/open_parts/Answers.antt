@@ -1,5 +1,5 @@
 use Rattle.std.proofs.Common.{length, sym, ◌∙◌, subst}
-use Rattle.teb_names.specs.Rows.{row_of}
+use Rattle.teb_rules.specs.names.Rows.{row_of}
 use Rattle.crash_disk.specs.Disk.{IsQuiet}
 use Rattle.engine_store.specs.Opening.{IsRefused, layout_of}
 use Rattle.engine_store.specs.declared.open_error.OpenError.{OpenError}

@@ -1,6 +1,6 @@
 use Rattle.std.proofs.Common.{◌≡◌, ℕ, List, length, ℤ, sym, ◌∙◌, subst}
-use Rattle.teb_names.specs.declared.Cell.{Cell}
-use Rattle.teb_names.specs.Rows.{row_of}
+use Rattle.teb_rules.specs.declared.names.Cell.{Cell}
+use Rattle.teb_rules.specs.names.Rows.{row_of}
 use Rattle.epoch_journal.specs.Layout.{layout}
 use Rattle.epoch_journal.specs.Read.{half_found_at}
 use Rattle.epoch_journal.proofs.Telling.{if_err, if_ok_one}

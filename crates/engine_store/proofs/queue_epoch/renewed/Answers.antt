@@ -1,4 +1,4 @@
-use Rattle.teb_names.specs.Rows.{row_of}
+use Rattle.teb_rules.specs.names.Rows.{row_of}
 use Rattle.commit_laws.specs.Records.{records_of}
 use Rattle.engine_store.proofs.Halves.{keeps_on}
 use Rattle.engine_store.proofs.queue_epoch.renewed.Goals as goal

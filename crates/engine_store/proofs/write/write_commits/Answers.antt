@@ -1,5 +1,5 @@
 use Rattle.std.proofs.Common.{refl}
-use Rattle.teb_names.specs.Rows.{row_of}
+use Rattle.teb_rules.specs.names.Rows.{row_of}
 use Rattle.commit_laws.specs.Commits.{commit_count}
 use Rattle.commit_laws.specs.Records.{records_of}
 use Rattle.engine_store.proofs.Halves.{not_written, written, written_moment}

@@ -1,10 +1,10 @@
 use Rattle.std.proofs.Common.{List, sym, ◌∙◌, ap, subst}
-use Rattle.teb_names.specs.declared.Session.{Session}
+use Rattle.teb_rules.specs.declared.names.Session.{Session}
 use Rattle.teb_rules.specs.Driver.{Ascending}
 use Rattle.script_text.specs.declared.Line.{Line}
 use Rattle.script_text.specs.Scripts.{scripts_of}
-use Rattle.fair_driver.specs.Seats.{scripts_on}
-use Rattle.fair_driver.proofs.SessionOrder.{scripts_ascend}
+use Rattle.script_runner.specs.turns.Seats.{scripts_on}
+use Rattle.script_runner.proofs.lemmas.turns.SessionOrder.{scripts_ascend}
 use Rattle.hall_runner.proofs.serving.serve_input.Goals as goal
 
 pub serve_scripts-requires-clause-ascending : goal.serve_scripts-requires-clause-ascending

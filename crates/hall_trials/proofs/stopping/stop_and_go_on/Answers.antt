@@ -1,5 +1,5 @@
 use Rattle.std.proofs.Common.{◌≡◌, List, [], sym, ◌∙◌, ap, subst}
-use Rattle.teb_names.specs.declared.Entry.{Entry}
+use Rattle.teb_rules.specs.declared.names.Entry.{Entry}
 use Rattle.teb_rules.specs.Run.{replies_of}
 use Rattle.teb_rules.specs.Scripts.{IsWay, WayFrom, at_first, state_after, entries_of}
 use Rattle.script_text.specs.declared.Line.{Line}

@@ -1,7 +1,7 @@
 use Rattle.std.proofs.Common.{◌≡◌, ◌∙◌, sym, ap, List, [], Option, None}
 use Rattle.std.specs.Option.{is_some}
-use Rattle.teb_names.specs.declared.Cell.{Cell}
-use Rattle.teb_names.specs.Cells.{cell_cmp}
+use Rattle.teb_rules.specs.declared.names.Cell.{Cell}
+use Rattle.teb_rules.specs.names.Cells.{cell_cmp}
 use Rattle.sorted_multimap.specs.Multimap.{values_in}
 use Rattle.hold_book.specs.declared.Hold.{Hold}
 use Rattle.hold_book.specs.Slots.{only_hold, only_or}

@@ -1,6 +1,6 @@
 use Rattle.std.proofs.Common.{◌∙◌, refl}
-use Rattle.teb_names.specs.declared.Cell.{Cell}
-use Rattle.teb_names.specs.Cells.{cell_cmp}
+use Rattle.teb_rules.specs.declared.names.Cell.{Cell}
+use Rattle.teb_rules.specs.names.Cells.{cell_cmp}
 use Rattle.sorted_multimap.specs.Multimap.{values_in}
 use Rattle.hold_book.specs.Books.{released}
 use Rattle.hold_book.proofs.Filing.{edited_cell, filed_release}

@@ -1,11 +1,11 @@
 use Rattle.std.proofs.Common.{◌≡◌, [], ◌++◌, refl, sym, subst, rules}
-use Rattle.teb_names.specs.declared.naming.NameBook.{NameBook}
+use Rattle.teb_rules.specs.declared.names.naming.NameBook.{NameBook}
 use Rattle.engine_core.specs.EngineModel.{EngineModel}
 use Rattle.store_setup.specs.SetupView.{setup_view}
 use Rattle.tree_switch.specs.Refusals.{IsDrained}
 use Rattle.answer_log.specs.Telling.{HasLines}
-use Rattle.replay_runner.specs.Logs.{log_of, replayed}
-use Rattle.input_runner.specs.Runs.{IsRunOver}
+use Rattle.script_runner.specs.replay.Logs.{log_of, replayed}
+use Rattle.script_runner.specs.Runs.{IsRunOver}
 use Rattle.phase_runner.proofs.Running.{course_after, course_of, drained_after, over_after, reported_after}
 use Rattle.phase_runner.proofs.phase.run_present.Goals as goal
 

@@ -1,8 +1,8 @@
 use Rattle.std.proofs.Common.{◌≡◌, ◌∙◌, List, reverse, rules, sym, ap, subst, subst₂}
 use Rattle.std.specs.Prelude.{All}
-use Rattle.teb_names.specs.declared.naming.NameBook.{NameBook}
-use Rattle.teb_names.specs.Rows.{IsAscending}
-use Rattle.teb_history.specs.declared.Event.{Event}
+use Rattle.teb_rules.specs.declared.names.naming.NameBook.{NameBook}
+use Rattle.teb_rules.specs.names.Rows.{IsAscending}
+use Rattle.teb_rules.specs.declared.history.Event.{Event}
 use Rattle.teb_rules.specs.Setup.{Store}
 use Rattle.script_text.specs.Named.{EventNamed}
 use Rattle.script_text.specs.Ranges.{EventInRange, RowInRange}

@@ -1,6 +1,6 @@
 use Rattle.std.proofs.Common.{◌≡◌, ◌++◌, ◌<◌, ℕ, drop, get_or}
 use Rattle.std.specs.List.{flat_map}
-use Rattle.teb_history.specs.declared.Event.{Event}
+use Rattle.teb_rules.specs.declared.history.Event.{Event}
 use Rattle.script_text.specs.Ranges.{EventInRange}
 use Rattle.script_text.specs.Texts.{event_text}
 use Rattle.printed_run.proofs.printing.put_events.Given as goal

@@ -1,6 +1,6 @@
 use Rattle.std.proofs.Common.{rules, ◌≡◌, ◌∙◌, ap, sym, take, length, arith}
 use Rattle.std.proofs.lemmas.List.{length-map}
-use Rattle.teb_names.specs.Rows.{row_of}
+use Rattle.teb_rules.specs.names.Rows.{row_of}
 use Rattle.crash_disk.specs.Sizes.{default_capacity}
 use Rattle.record_journal.specs.Journal.{after_records}
 use Rattle.record_journal.specs.Views.{record_lists}

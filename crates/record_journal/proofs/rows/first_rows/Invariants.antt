@@ -1,7 +1,7 @@
 use Rattle.std.proofs.Common.{◌≡◌, ◌≤◌, drop, length}
 use Rattle.std.specs.BTreeMap.{get}
-use Rattle.teb_names.specs.declared.Cell.{Cell}
-use Rattle.teb_names.specs.Rows.{row_of}
+use Rattle.teb_rules.specs.declared.names.Cell.{Cell}
+use Rattle.teb_rules.specs.names.Rows.{row_of}
 use Rattle.record_journal.proofs.Tables.{cell_cmp}
 use Rattle.record_journal.proofs.rows.first_rows.Given as goal
 

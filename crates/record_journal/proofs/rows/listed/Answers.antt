@@ -1,7 +1,7 @@
 use Rattle.std.proofs.Common.{◌≡◌, ◌∙◌, ap, map, rules, List, ℤ}
 use Rattle.std.specs.List.Sorted.{IsStrictlySortedBy}
-use Rattle.teb_names.specs.declared.Cell.{Cell}
-use Rattle.teb_names.specs.Rows.{row_of}
+use Rattle.teb_rules.specs.declared.names.Cell.{Cell}
+use Rattle.teb_rules.specs.names.Rows.{row_of}
 use Rattle.record_journal.proofs.Tables.{cell_cmp, row_of_entries, entries_ascend}
 use Rattle.record_journal.proofs.rows.listed.Goals as goal
 

@@ -1,6 +1,6 @@
 use Rattle.std.proofs.Common.{◌≡◌, take}
 use Rattle.std.specs.BTreeMap.{get}
-use Rattle.teb_names.specs.declared.Cell.{Cell}
+use Rattle.teb_rules.specs.declared.names.Cell.{Cell}
 use Rattle.record_journal.specs.Journal.{after_changes}
 use Rattle.record_journal.proofs.Tables.{cell_cmp}
 use Rattle.record_journal.proofs.rows.put_rows.Given as goal

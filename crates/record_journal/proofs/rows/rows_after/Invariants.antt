@@ -1,7 +1,7 @@
 use Rattle.std.proofs.Common.{◌≡◌, take}
 use Rattle.std.specs.BTreeMap.{get}
-use Rattle.teb_names.specs.declared.Cell.{Cell}
-use Rattle.teb_names.specs.Rows.{row_of}
+use Rattle.teb_rules.specs.declared.names.Cell.{Cell}
+use Rattle.teb_rules.specs.names.Rows.{row_of}
 use Rattle.record_journal.specs.Journal.{after_records}
 use Rattle.record_journal.specs.Views.{record_lists}
 use Rattle.record_journal.proofs.Tables.{cell_cmp}

@@ -1,10 +1,10 @@
 use Rattle.std.proofs.Common.{◌∙◌, ◌+◌, ◌≡◌, ◌≤◌, ℕ, Bool, List, cond, true, false, get_or, refl, sym, subst, drop, arith}
 use Rattle.phase_api.specs.FactsView.{setup_of, events_of}
-use Rattle.teb_names.specs.declared.Txn.{Txn}
+use Rattle.teb_rules.specs.declared.names.Txn.{Txn}
 use Rattle.hold_book.specs.declared.Hold.{Hold}
 use Rattle.access_conflicts.specs.Blockers.{in_the_way}
-use Rattle.teb_history.specs.Ascending.{put_by}
-use Rattle.teb_history.specs.Live.{number_of}
+use Rattle.teb_rules.specs.history.Ascending.{put_by}
+use Rattle.teb_rules.specs.history.Live.{number_of}
 use Rattle.sorted_multimap.specs.Multimap.{Shown, values_in}
 use Rattle.sorted_multimap.specs.Keys.{txn_cmp}
 use Rattle.runtime_pipeline.proofs.ListEdits.{IsPutting, edited, putting_in, putting_none}

@@ -1,6 +1,6 @@
 use Rattle.std.proofs.Common.{◌∙◌, ap, rules, not, eqb, cond, [], List}
 use Rattle.std.proofs.lemmas.Fn.{filter_same}
-use Rattle.teb_names.specs.declared.Txn.{Txn}
+use Rattle.teb_rules.specs.declared.names.Txn.{Txn}
 use Rattle.sorted_multimap.specs.Multimap.{values_of}
 use Rattle.sorted_multimap.specs.Keys.{txn_cmp}
 use Rattle.dependency_book.specs.Dependencies.{has}

@@ -1,6 +1,6 @@
 use Rattle.std.proofs.Common.{◌≡◌, ◌∙◌, ◌+◌, ◌-◌, sym, ap, arith}
 use Rattle.teb_rules.specs.Setup.{NodeRow}
-use Rattle.cc_tree.specs.Grown.{parent_number}
+use Rattle.store_setup.specs.tree.Grown.{parent_number}
 use Rattle.runtime_pipeline.proofs.Ways.{climb_here, climb_stops, climb_root, climb_up}
 use Rattle.runtime_pipeline.proofs.under.+is_above.Goals as goal
 

@@ -1,8 +1,8 @@
 use Rattle.std.proofs.Common.{◌≡◌, ◌∙◌, ◌+◌, ◌-◌, ◌&&◌, Bool, List, true, false, sym, ap, arith}
-use Rattle.teb_names.specs.declared.Kind.{Kind}
+use Rattle.teb_rules.specs.declared.names.Kind.{Kind}
 use Rattle.teb_rules.specs.Setup.{NodeRow, among}
 use Rattle.teb_rules.specs.Tree.{row, way}
-use Rattle.cc_tree.specs.Grown.{kind_numbers}
+use Rattle.store_setup.specs.tree.Grown.{kind_numbers}
 use Rattle.runtime_pipeline.proofs.Ways.{any_none, any_found, any_last}
 use Rattle.runtime_pipeline.proofs.under.+stands_among.Goals as goal
 

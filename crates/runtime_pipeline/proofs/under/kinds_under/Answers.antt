@@ -1,7 +1,7 @@
 use Rattle.std.proofs.Common.{◌∙◌, ℕ, List, Vec, ◌&&◌, sym, ap}
 use Rattle.std.specs.declared.alloc.Global.{Global}
-use Rattle.teb_names.specs.declared.Kind.{Kind}
-use Rattle.cc_tree.specs.Grown.{kind_numbers}
+use Rattle.teb_rules.specs.declared.names.Kind.{Kind}
+use Rattle.store_setup.specs.tree.Grown.{kind_numbers}
 use Rattle.std.specs.List.{list_any}
 use Rattle.teb_rules.specs.Setup.{among}
 use Rattle.teb_rules.specs.Tree.{below, row, way}

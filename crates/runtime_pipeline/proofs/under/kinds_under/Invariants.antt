@@ -1,5 +1,5 @@
 use Rattle.std.proofs.Common.{◌≡◌, filter}
-use Rattle.cc_tree.specs.Grown.{kind_numbers}
+use Rattle.store_setup.specs.tree.Grown.{kind_numbers}
 use Rattle.teb_rules.specs.Tree.{below}
 use Rattle.teb_rules.specs.Steps.{stands_under}
 use Rattle.runtime_pipeline.proofs.under.kinds_under.Given as goal

@@ -4,7 +4,7 @@ use Rattle.std.proofs.lemmas.Result.{IfOk-weaker}
 use Rattle.std.proofs.lemmas.List.Sorted.{ranks_by}
 use Rattle.std.specs.Cmp.Lexicographic.{slice_cmp, nat_list_cmp_total}
 use Rattle.std.specs.Ordering.{nat_cmp, is_lt}
-use Rattle.teb_laws.proofs.Sound.{tree_facts}
+use Rattle.teb_rules.proofs.lemmas.laws.Sound.{tree_facts}
 use Rattle.teb_rules.specs.Ranks.{serial_order}
 use Rattle.phase_api.specs.FactsView.{setup_of, events_of}
 use Rattle.serial_order.specs.Commits.{txn_numbers}

@@ -2,8 +2,8 @@ use Rattle.std.proofs.Common.{◌≡◌, ap, sym, ◌∙◌, reverse, inl, inr}
 use Rattle.std.proofs.lemmas.Result.{IfOk-weaker}
 use Rattle.teb_rules.specs.Setup.{NodeRow}
 use Rattle.teb_rules.specs.Ranks.{serial_order}
-use Rattle.teb_laws.proofs.Sound.{tree_facts}
-use Rattle.teb_laws.proofs.Commits.{order_of_commits}
+use Rattle.teb_rules.proofs.lemmas.laws.Sound.{tree_facts}
+use Rattle.teb_rules.proofs.lemmas.laws.Commits.{order_of_commits}
 use Rattle.phase_api.specs.FactsView.{setup_of, events_of}
 use Rattle.serial_order.specs.Commits.{commits_in, txn_numbers}
 use Rattle.serial_order.proofs.Commits.{commits_walk}

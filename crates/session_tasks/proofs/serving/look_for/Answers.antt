@@ -1,6 +1,6 @@
 use Rattle.std.proofs.Common.{◌≡◌, ℕ, ◌+◌, ◌-◌, List, ◌∷◌, ◌∙◌, ap, refl, arith}
 use Rattle.std.proofs.lemmas.List.Elements.{All-cons}
-use Rattle.teb_names.specs.declared.Outcome.{Outcome}
+use Rattle.teb_rules.specs.declared.names.Outcome.{Outcome}
 use Rattle.finish_board.specs.declared.answer.Poll.{Poll}
 use Rattle.finish_board.specs.declared.answer.Poll.TheVariants.{Finished, Unfinished}
 use Rattle.session_tasks.specs.Looks.{LookedInVain}

@@ -1,6 +1,6 @@
 use Rattle.std.proofs.Common.{rules, ◌≡◌, ◌+◌, ◌<◌, ◌≤◌, vec_len, vec_capacity, ap, subst, ◌∙◌, arith}
-use Rattle.teb_names.specs.declared.TheConstants.{SESSIONS}
-use Rattle.teb_names.specs.declared.Session.{Session}
+use Rattle.teb_rules.specs.declared.names.TheConstants.{SESSIONS}
+use Rattle.teb_rules.specs.declared.names.Session.{Session}
 use Rattle.turn_lock.specs.Seats.{base_in, view_of}
 use Rattle.shared_store.specs.Hosting.{first_of}
 use Rattle.shared_store.specs.Keeping.{place_of}

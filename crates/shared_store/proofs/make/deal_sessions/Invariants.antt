@@ -4,7 +4,7 @@ use Rattle.shared_store.specs.Hosting.{first_of}
 use Rattle.shared_store.specs.Keeping.{place_of}
 use Rattle.shared_store.proofs.Dealing.{Rest, Dealt}
 use Rattle.shared_store.proofs.make.deal_sessions.Given as goal
-use Rattle.teb_names.specs.declared.TheConstants.{SESSIONS}
+use Rattle.teb_rules.specs.declared.names.TheConstants.{SESSIONS}
 
 abbrev pub invariant-loop-number : goal.invariant-loop-number
 invariant-loop-number g l =

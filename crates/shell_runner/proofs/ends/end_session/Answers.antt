@@ -1,4 +1,4 @@
-use Rattle.teb_names.specs.declared.Request.TheVariants as requests
+use Rattle.teb_rules.specs.declared.names.Request.TheVariants as requests
 use Rattle.shell_lines.specs.declared.line.ShellLine.TheVariants as lines
 use Rattle.shell_runner.specs.Runs.{state_of}
 use Rattle.shell_runner.proofs.Ending.{reply_released, same_result}

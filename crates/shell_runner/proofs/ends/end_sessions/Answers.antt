@@ -1,6 +1,6 @@
 use Rattle.std.proofs.Common.{ℕ, ◌≡◌, arith, subst, suc}
 use Rattle.std.proofs.lemmas.Result.{MatchResult-at_err, MatchResult-at_ok}
-use Rattle.teb_names.specs.declared.TheConstants.{SESSIONS}
+use Rattle.teb_rules.specs.declared.names.TheConstants.{SESSIONS}
 use Rattle.shell_runner.proofs.Ending.{EndsSoFar, all_ended, ending, no_end_yet, passing}
 use Rattle.shell_runner.proofs.ends.end_sessions.Goals as goal
 

@@ -1,5 +1,5 @@
 use Rattle.std.proofs.Common.{◌≡◌, ℕ, ◌+◌, ◌%◌, List, ◌++◌, length, vec_len, sym, ◌∙◌, ap, ap₂, arith, length-append}
-use Rattle.teb_names.specs.declared.Session.{Session}
+use Rattle.teb_rules.specs.declared.names.Session.{Session}
 use Rattle.script_text.specs.declared.Line.{Line}
 use Rattle.shop_load.specs.Loads.{asked_by, loaded_lines, next_state, numbered, requests_from}
 use Rattle.shop_load.proofs.Loading.{loaded_more, loaded_none, state_more, state_none, few_lines}

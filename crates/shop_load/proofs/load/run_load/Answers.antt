@@ -1,8 +1,8 @@
 use Rattle.std.proofs.Common.{◌≡◌, ap, subst, sym}
 use Rattle.command_output.specs.Shown.{Shown}
 use Rattle.input_reader.specs.Tasks.{Task}
-use Rattle.input_runner.specs.Runs.{AreTurns, IsRun, IsSerialized}
-use Rattle.input_runner.proofs.Runs.{is_run, is_serialized}
+use Rattle.script_runner.specs.Runs.{AreTurns, IsRun, IsSerialized}
+use Rattle.script_runner.proofs.Runs.{is_run, is_serialized}
 use Rattle.store_setup.specs.SetupView.{SetupView}
 use Rattle.shop_load.specs.Summaries.{IsSummary}
 use Rattle.shop_load.proofs.load.run_load.Goals as goal

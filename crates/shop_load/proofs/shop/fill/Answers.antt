@@ -1,6 +1,6 @@
 use Rattle.std.proofs.Common.{◌+◌, ◌++◌, [], ◌∷◌, List, ℤ, to_z, of_z, w64, sym, ◌∙◌, ap, append_assoc}
 use Rattle.std.proofs.lemmas.List.{append-nil}
-use Rattle.teb_names.specs.declared.Cell.{Cell}
+use Rattle.teb_rules.specs.declared.names.Cell.{Cell}
 use Rattle.shop_load.specs.Shop.{filled}
 use Rattle.shop_load.proofs.Shops.{filled_none, filled_more}
 use Rattle.shop_load.proofs.shop.fill.Goals as goal

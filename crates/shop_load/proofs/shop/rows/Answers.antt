@@ -1,5 +1,5 @@
 use Rattle.std.proofs.Common.{ℕ, ◌++◌, List, ℤ, pos, ◌∙◌, ap}
-use Rattle.teb_names.specs.declared.Cell.{Cell}
+use Rattle.teb_rules.specs.declared.names.Cell.{Cell}
 use Rattle.shop_load.specs.Shop.{filled}
 use Rattle.shop_load.proofs.Shops.{ascends}
 use Rattle.shop_load.proofs.shop.rows.Goals as goal

@@ -1,5 +1,5 @@
 use Rattle.std.proofs.Common.{◌≡◌, ℕ, ◌+◌, Bool, length, filter, cond, sym, ◌∙◌, ap, ap₂, arith}
-use Rattle.teb_history.specs.Phases.{aborted, committed, numbers, txns}
+use Rattle.teb_rules.specs.history.Phases.{aborted, committed, numbers, txns}
 use Rattle.shop_load.proofs.Summing.{none_counted, counted_more, counted_few, at_most_one, bit_is}
 use Rattle.shop_load.proofs.summary.counts_of.Goals as goal
 

@@ -1,5 +1,5 @@
 use Rattle.std.proofs.Common.{◌≡◌, filter, length}
-use Rattle.teb_history.specs.Phases.{aborted, committed, numbers}
+use Rattle.teb_rules.specs.history.Phases.{aborted, committed, numbers}
 use Rattle.shop_load.proofs.summary.counts_of.Given as goal
 
 -- the counts among the transactions so far

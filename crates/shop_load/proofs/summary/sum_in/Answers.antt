@@ -1,6 +1,6 @@
 use Rattle.std.proofs.Common.{◌≡◌, ◌+◌, pos, ℤ, ◌+ℤ◌, drop, FitsSigned, w64, rules, arith, sym, ◌∙◌, ap}
 use Rattle.std.proofs.lemmas.Int.{ints}
-use Rattle.teb_names.specs.declared.Cell.{Cell}
+use Rattle.teb_rules.specs.declared.names.Cell.{Cell}
 use Rattle.shop_load.specs.Summaries.{sum_in}
 use Rattle.shop_load.proofs.Summing.{sum_step}
 use Rattle.shop_load.proofs.summary.sum_in.Goals as goal

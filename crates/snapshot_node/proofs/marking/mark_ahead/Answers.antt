@@ -1,7 +1,7 @@
 use Rattle.std.proofs.Common.{◌+◌, ℕ, List, sym, subst}
 use Rattle.std.proofs.lemmas.Bool.{both_ways}
-use Rattle.teb_names.specs.declared.Txn.{Txn}
-use Rattle.teb_laws.specs.Lawful.{Lawful}
+use Rattle.teb_rules.specs.declared.names.Txn.{Txn}
+use Rattle.teb_rules.specs.laws.Lawful.{Lawful}
 use Rattle.phase_api.specs.FactsView.{setup_of, events_of}
 use Rattle.snapshot_node.specs.declared.marks.Mark.{Mark}
 use Rattle.snapshot_node.specs.Marks.{HaveGrown, IsTold}

@@ -2,7 +2,7 @@ use Rattle.std.proofs.Common.{◌≡◌, ◌-◌, arith}
 use Rattle.phase_api.specs.FactsView.{setup_of, events_of}
 use Rattle.batch_book.proofs.Telling.{joined_from}
 use Rattle.batch_book.proofs.Intervals.{start-lt}
-use Rattle.teb_history.proofs.Counting.{begun_fewer}
+use Rattle.teb_rules.proofs.lemmas.history.Counting.{begun_fewer}
 use Rattle.snapshot_node.proofs.marking.mark_pair.Goals as goal
 
 pub start-requires : goal.start-requires

@@ -1,8 +1,8 @@
 use Rattle.std.proofs.Common.{◌∙◌, ltb, drop, rules, arith}
 use Rattle.std.proofs.lemmas.List.{take_all, length-drop}
 use Rattle.std.proofs.lemmas.List.Sorted.{IsPartitionedBy-ltb, IsPartitionPoint-from_clause}
-use Rattle.teb_names.specs.declared.Txn.{Txn}
-use Rattle.teb_history.specs.Live.{number_of}
+use Rattle.teb_rules.specs.declared.names.Txn.{Txn}
+use Rattle.teb_rules.specs.history.Live.{number_of}
 use Rattle.snapshot_node.proofs.Later.{numbers_rise, part_from}
 use Rattle.snapshot_node.proofs.numbered.from_number.Goals as goal
 

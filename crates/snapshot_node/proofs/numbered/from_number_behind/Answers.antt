@@ -1,6 +1,6 @@
 use Rattle.std.proofs.Common.{◌∙◌, ◌≤◌, get_or, drop, arith}
 use Rattle.std.proofs.lemmas.List.{take_all, length-drop}
-use Rattle.teb_names.specs.declared.Txn.{Txn}
+use Rattle.teb_rules.specs.declared.names.Txn.{Txn}
 use Rattle.snapshot_node.proofs.Later.{parts_at}
 use Rattle.snapshot_node.proofs.numbered.from_number_behind.Goals as goal
 use Rattle.snapshot_node.proofs.numbered.from_number_behind.Goals.{then-loop-start-test+else-txns-start, else-loop-start-test}

@@ -1,7 +1,7 @@
 use Rattle.std.proofs.Common.{◌≡◌, ◌<◌, ◌-◌, ◌∙◌, length, get_or, sym, ap, subst, rules, arith}
 use Rattle.std.proofs.lemmas.List.Sorted.{answers_always}
 use Rattle.std.proofs.lemmas.Option.{get_or_from_slice_get, slice_get_within}
-use Rattle.teb_history.proofs.AscendingLists.{searched, gap_end, found_at}
+use Rattle.teb_rules.proofs.lemmas.history.AscendingLists.{searched, gap_end, found_at}
 use Rattle.sorted_multimap.proofs.number.find_number.Goals as goal
 
 pub returns-then-greatest-number : goal.returns-then-greatest-number

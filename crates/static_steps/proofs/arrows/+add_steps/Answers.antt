@@ -1,8 +1,8 @@
 use Rattle.std.proofs.Common.{sym, arith}
 use Rattle.std.proofs.lemmas.List.{drop_all}
-use Rattle.teb_names.proofs.Bools.{or_false}
+use Rattle.teb_rules.proofs.lemmas.names.Bools.{or_false}
 use Rattle.teb_rules.specs.Steps.{leads}
-use Rattle.txn_profile.specs.Steps.{numbers_of}
+use Rattle.store_setup.specs.profile.Steps.{numbers_of}
 use Rattle.static_steps.proofs.AddedArrows.{step_added}
 use Rattle.static_steps.proofs.Bits.{none_in}
 use Rattle.static_steps.proofs.arrows.+add_steps.Goals as goal

@@ -1,5 +1,5 @@
 use Rattle.std.proofs.Common.{Some}
-use Rattle.input_runner.specs.Runs.{IsRun, IsReplay, IsReport}
+use Rattle.script_runner.specs.Runs.{IsRun, IsReplay, IsReport}
 use Rattle.command_words.specs.declared.command.Command.TheVariants.{Replay}
 use Rattle.tebaldi.proofs.Rightness.{right_of, refusal_ends, refused_of}
 use Rattle.tebaldi.proofs.source.replay_source.Goals as goal

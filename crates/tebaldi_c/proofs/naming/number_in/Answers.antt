@@ -4,7 +4,7 @@ use Rattle.std.specs.Str.{bytes_eq}
 use Rattle.std.specs.List.{position_or_len, slice_get}
 use Rattle.std.proofs.lemmas.List.Sums.{position_or_len_is}
 use Rattle.std.proofs.lemmas.Option.{get_or_from_slice_get}
-use Rattle.teb_names.specs.Names.{number_of}
+use Rattle.teb_rules.specs.names.Names.{number_of}
 use Rattle.tebaldi_c.proofs.naming.number_in.Goals as goal
 use borrow.Author.Count.{below_more}
 

@@ -1,6 +1,6 @@
 use Rattle.std.proofs.Common.{◌∙◌, ◌∷◌, sym, subst, refl, List}
-use Rattle.teb_names.specs.Cells.{cell_cmp}
-use Rattle.teb_history.specs.declared.Event.{Event}
+use Rattle.teb_rules.specs.names.Cells.{cell_cmp}
+use Rattle.teb_rules.specs.declared.history.Event.{Event}
 use Rattle.sorted_multimap.specs.Multimap.{values_in}
 use Rattle.timestamp_node.proofs.Forgetting.{IsForgetting, forget_none, forget_got, forget_other, forget_all}
 use Rattle.timestamp_node.proofs.reads.forget_reads.Goals as goal

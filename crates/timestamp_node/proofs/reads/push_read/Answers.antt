@@ -1,5 +1,5 @@
 use Rattle.std.proofs.Common.{◌∙◌}
-use Rattle.teb_names.specs.Cells.{cell_cmp}
+use Rattle.teb_rules.specs.names.Cells.{cell_cmp}
 use Rattle.sorted_multimap.specs.Multimap.{values_in}
 use Rattle.sorted_multimap.proofs.CellValues.{pushed_cell}
 use Rattle.timestamp_node.proofs.reads.push_read.Goals as goal

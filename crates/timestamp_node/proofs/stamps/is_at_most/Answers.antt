@@ -1,7 +1,7 @@
 use Rattle.std.proofs.Common.{◌∙◌, ◌||◌, ℕ, Bool, sym, ap, inl, inr}
 use Rattle.std.proofs.lemmas.Bool.{both_ways, or_left, or_right}
 use Rattle.teb_rules.specs.Versions.{precedes}
-use Rattle.teb_laws.proofs.VersionOrder.{precedes_row}
+use Rattle.teb_rules.proofs.lemmas.laws.VersionOrder.{precedes_row}
 use Rattle.version_chain.specs.Lists.{writers_of}
 use Rattle.timestamp_node.proofs.Said.{found_place, not_found, place_tells}
 use Rattle.timestamp_node.proofs.stamps.is_at_most.Goals as goal

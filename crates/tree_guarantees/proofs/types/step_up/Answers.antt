@@ -1,5 +1,5 @@
 use Rattle.std.proofs.Common.{arith}
-use Rattle.cc_tree.proofs.Climbing.{climbs}
+use Rattle.store_setup.proofs.lemmas.tree.Climbing.{climbs}
 use Rattle.tree_guarantees.proofs.Leaves.{parent_is, parent_within}
 use Rattle.tree_guarantees.proofs.types.step_up.Goals as goal
 

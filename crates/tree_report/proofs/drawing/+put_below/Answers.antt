@@ -1,6 +1,6 @@
 use Rattle.std.proofs.Common.{◌-◌, length, take, drop, arith}
 use Rattle.std.proofs.lemmas.List.{length-map}
-use Rattle.cc_tree.specs.Grown.{node_numbers}
+use Rattle.store_setup.specs.tree.Grown.{node_numbers}
 use Rattle.tree_report.specs.Drawing.{drawn}
 use Rattle.tree_report.proofs.Drawn.{all_drawn, from_on, none_drawn, one_more}
 use Rattle.tree_report.proofs.drawing.+put_below.Goals as goal

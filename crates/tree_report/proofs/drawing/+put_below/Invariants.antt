@@ -1,5 +1,5 @@
 use Rattle.std.proofs.Common.{◌≡◌, ◌++◌, ◌-◌, drop}
-use Rattle.cc_tree.specs.Grown.{node_numbers}
+use Rattle.store_setup.specs.tree.Grown.{node_numbers}
 use Rattle.tree_report.specs.Drawing.{branches, drawn}
 use Rattle.tree_report.proofs.drawing.+put_below.Given as goal
 

@@ -1,7 +1,7 @@
 use Rattle.std.proofs.Common.{ℕ, ◌<◌, List, [], length, arith, sym, ap, subst}
 use Rattle.std.specs.List.{All}
-use Rattle.teb_names.specs.declared.Node.{Node}
-use Rattle.cc_tree.specs.Grown.{node_numbers}
+use Rattle.teb_rules.specs.declared.names.Node.{Node}
+use Rattle.store_setup.specs.tree.Grown.{node_numbers}
 use Rattle.teb_rules.specs.Tree.{below}
 use Rattle.line_words.proofs.Counted.{counted_all, counted_more}
 use Rattle.tree_report.specs.Drawing.{one_child}

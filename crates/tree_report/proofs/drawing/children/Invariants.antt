@@ -1,6 +1,6 @@
 use Rattle.std.proofs.Common.{◌≡◌, ◌<◌, length}
 use Rattle.std.specs.List.{All, flat_map}
-use Rattle.cc_tree.specs.Grown.{node_numbers}
+use Rattle.store_setup.specs.tree.Grown.{node_numbers}
 use Rattle.teb_rules.specs.Tree.{below}
 use Rattle.tree_report.specs.Drawing.{one_child}
 use Rattle.tree_report.proofs.drawing.children.Given as goal

@@ -1,5 +1,5 @@
 use Rattle.std.proofs.Common.{◌≡◌, ◌++◌, drop, map}
-use Rattle.cc_tree.specs.Grown.{kind_numbers}
+use Rattle.store_setup.specs.tree.Grown.{kind_numbers}
 use Rattle.script_text.specs.Puts.{spaced}
 use Rattle.script_text.specs.Texts.{name_of}
 use Rattle.tree_report.proofs.node_line.put_names.Given as goal

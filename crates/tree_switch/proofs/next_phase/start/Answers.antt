@@ -1,6 +1,6 @@
 use Rattle.std.proofs.Common.{◌<◌, ℤ, List, length, sym, subst, ap}
 use Rattle.std.specs.List.{All}
-use Rattle.teb_names.specs.declared.Cell.{Cell}
+use Rattle.teb_rules.specs.declared.names.Cell.{Cell}
 use Rattle.tree_switch.proofs.Starting.{left_within, whole_with}
 use Rattle.tree_switch.proofs.next_phase.start.Goals as goal
 

@@ -1,8 +1,8 @@
 use Rattle.std.proofs.Common.{◌==◌, ℤ, List, length, subst, sym, ap, ◌∙◌}
 use Rattle.std.proofs.lemmas.Bool.{both_ways}
-use Rattle.teb_names.specs.declared.Cell.{Cell}
-use Rattle.teb_names.specs.declared.naming.NameBook.{NameBook}
-use Rattle.teb_history.specs.declared.Event.{Event}
+use Rattle.teb_rules.specs.declared.names.Cell.{Cell}
+use Rattle.teb_rules.specs.declared.names.naming.NameBook.{NameBook}
+use Rattle.teb_rules.specs.declared.history.Event.{Event}
 use Rattle.tree_switch.specs.Refusals.{AreNumbered, AreOfSessions, AllFinished, AllTold, IsDrained, IsLeast, IsUntold}
 use Rattle.tree_switch.proofs.Refusing.{are_numbered, are_of_sessions, no_rows}
 use Rattle.tree_switch.proofs.SameNames.{same_decides}

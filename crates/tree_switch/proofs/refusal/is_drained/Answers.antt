@@ -1,5 +1,5 @@
 use Rattle.std.proofs.Common.{◌≡◌, ◌==◌, length, rules}
-use Rattle.teb_history.specs.Live.{live_txns}
+use Rattle.teb_rules.specs.history.Live.{live_txns}
 use Rattle.tree_switch.proofs.Draining.{drained_is}
 use Rattle.tree_switch.proofs.refusal.is_drained.Goals as goal
 

@@ -1,6 +1,6 @@
 use Rattle.std.proofs.Common.{◌≡◌, [], drop, map}
 use Rattle.toml.specs.View.{view}
-use Rattle.cc_tree.specs.Grown.{kind_numbers}
+use Rattle.store_setup.specs.tree.Grown.{kind_numbers}
 use Rattle.tree_toml.specs.Reading.{each}
 use Rattle.tree_toml.specs.Nodes.{member_in}
 use Rattle.tree_toml.proofs.members.add_members.Given as goal

@@ -1,6 +1,6 @@
 use Rattle.std.proofs.Common.{◌≡◌, [], drop, map}
 use Rattle.toml.specs.View.{view}
-use Rattle.cc_tree.specs.Grown.{rows_of}
+use Rattle.store_setup.specs.tree.Grown.{rows_of}
 use Rattle.tree_toml.specs.Reading.{each}
 use Rattle.tree_toml.specs.Nodes.{node_in}
 use Rattle.tree_toml.proofs.nodes.add_rows.Given as goal

@@ -1,6 +1,6 @@
 use Rattle.std.proofs.Common.{◌≡◌, ◌++◌, List, ℤ, sym, ◌∙◌, ap, append-nil}
-use Rattle.teb_names.specs.declared.Cell.{Cell}
-use Rattle.teb_names.proofs.Ascending.{ascending_from_sorted}
+use Rattle.teb_rules.specs.declared.names.Cell.{Cell}
+use Rattle.teb_rules.proofs.lemmas.names.Ascending.{ascending_from_sorted}
 use Rattle.tree_toml.proofs.rows.sorted.Goals as goal
 
 pub from_sorted-requires : goal.from_sorted-requires

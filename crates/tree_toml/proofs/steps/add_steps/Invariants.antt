@@ -1,6 +1,6 @@
 use Rattle.std.proofs.Common.{◌≡◌, [], drop, map}
 use Rattle.toml.specs.View.{view}
-use Rattle.txn_profile.specs.Steps.{steps_of}
+use Rattle.store_setup.specs.profile.Steps.{steps_of}
 use Rattle.tree_toml.specs.Reading.{each}
 use Rattle.tree_toml.specs.Types.{step_in}
 use Rattle.tree_toml.proofs.steps.add_steps.Given as goal

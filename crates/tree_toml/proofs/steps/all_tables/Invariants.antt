@@ -1,6 +1,6 @@
 use Rattle.std.proofs.Common.{◌≡◌}
 use Rattle.teb_rules.specs.Tree.{below}
-use Rattle.txn_profile.specs.Steps.{numbers_of}
+use Rattle.store_setup.specs.profile.Steps.{numbers_of}
 use Rattle.tree_toml.proofs.steps.all_tables.Given as goal
 
 abbrev pub invariant-loop-number : goal.invariant-loop-number

@@ -1,5 +1,5 @@
 use Rattle.std.proofs.Common.{◌<◌}
-use Rattle.cc_tree.specs.Grown.{row_of}
+use Rattle.store_setup.specs.tree.Grown.{row_of}
 use Rattle.tree_toml.specs.Kept.{IsRow}
 use Rattle.tree_toml.proofs.Numbers.{unmapped}
 use Rattle.tree_toml.proofs.trees.grow.Goals as goal

@@ -2,7 +2,7 @@ use Rattle.std.proofs.Common.{[], Some, sym, ap, ◌∙◌, arith}
 use Rattle.std.proofs.lemmas.Option.{slice_get-get_or}
 use Rattle.tree_writer.specs.Written.{names_array}
 use Rattle.tree_writer.proofs.Items.{item_more}
-use Rattle.txn_profile.specs.Steps.{numbers_of}
+use Rattle.store_setup.specs.profile.Steps.{numbers_of}
 use Rattle.tree_writer.proofs.arrays.put_each_step.Goals as goal
 
 pub loop-i-preserved : goal.loop-i-preserved

@@ -1,5 +1,5 @@
 use Rattle.std.proofs.Common.{◌≡◌, ◌++◌, true, drop, map}
-use Rattle.cc_tree.specs.Grown.{kind_numbers}
+use Rattle.store_setup.specs.tree.Grown.{kind_numbers}
 use Rattle.script_text.specs.Texts.{name_of}
 use Rattle.tree_writer.specs.Written.{items_text, quoted}
 use Rattle.tree_writer.proofs.arrays.put_kinds.Given as goal

@@ -1,5 +1,5 @@
 use Rattle.std.proofs.Common.{◌≡◌, ◌++◌, true, drop, map}
-use Rattle.txn_profile.specs.Steps.{numbers_of}
+use Rattle.store_setup.specs.profile.Steps.{numbers_of}
 use Rattle.script_text.specs.Texts.{name_of}
 use Rattle.tree_writer.specs.Written.{items_text, quoted}
 use Rattle.tree_writer.proofs.arrays.put_numbers.Given as goal

@@ -1,6 +1,6 @@
 use Rattle.std.proofs.Common.{◌≡◌, ◌++◌, codes, subst}
 use Rattle.std.specs.Prelude.{OnOk}
-use Rattle.cc_tree.specs.Grown.{row_of}
+use Rattle.store_setup.specs.tree.Grown.{row_of}
 use Rattle.teb_rules.specs.Setup.{NodeRow}
 use Rattle.teb_rules.specs.Tree.{row}
 use Rattle.script_text.specs.Texts.{name_of}

@@ -1,4 +1,4 @@
-use Rattle.cc_tree.specs.Grown.{row_of}
+use Rattle.store_setup.specs.tree.Grown.{row_of}
 use Rattle.tree_writer.proofs.Appended.{three_texts}
 use Rattle.tree_writer.specs.Written.{batch_setting, order_setting, part_settings}
 use Rattle.tree_writer.proofs.nodes.put_parameters.Goals as goal

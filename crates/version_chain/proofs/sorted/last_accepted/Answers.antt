@@ -1,6 +1,6 @@
 use Rattle.std.proofs.Common.{◌≡◌, ℕ, ◌<◌, ◌-◌, sym, ap, subst, arith, List, length, get_or, map, Some, None, true, false}
 use Rattle.std.proofs.lemmas.List.{length-map}
-use Rattle.teb_names.specs.declared.Txn.{Txn}
+use Rattle.teb_rules.specs.declared.names.Txn.{Txn}
 use Rattle.version_chain.specs.declared.sorted.Stored.{Stored}
 use Rattle.version_chain.specs.Lists.{Version}
 use Rattle.version_chain.specs.Stored.{version}

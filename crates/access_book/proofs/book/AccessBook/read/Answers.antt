@@ -1,10 +1,10 @@
 use Rattle.std.proofs.Common.{◌≡◌, ◌<◌, ◌-◌, ◌∙◌, suc, length, cond, eqb, ◌||◌, ◌&&◌, ◌∷◌, sym, ap, subst, arith}
 use Rattle.std.specs.List.{IsDistinct}
-use Rattle.teb_names.specs.Cells.{same_cell}
+use Rattle.teb_rules.specs.names.Cells.{same_cell}
 use Rattle.cell_index.proofs.ListEdits.{distinct-with_cell, placed_count, placed_within, placed_edited_count}
 use Rattle.access_book.specs.declared.accesses.Touch.TheVariants as touch
-use Rattle.teb_history.specs.Ascending.{IsAscendingBy}
-use Rattle.teb_history.specs.Live.{number_of}
+use Rattle.teb_rules.specs.history.Ascending.{IsAscendingBy}
+use Rattle.teb_rules.specs.history.Live.{number_of}
 use Rattle.access_book.specs.Books.{Shown, readers_of, writers_of, committed_of, touched_of, is_accessor, AreFiled}
 use Rattle.access_book.specs.Touched.{Reads}
 use Rattle.access_book.proofs.Filing.{at_most_one}

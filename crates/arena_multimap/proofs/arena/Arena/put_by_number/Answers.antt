@@ -1,6 +1,6 @@
 use Rattle.std.proofs.Common.{◌≡◌, ℕ, ◌∙◌, Result, List, cond, eqb, sym, ap, arith}
-use Rattle.teb_history.specs.Ascending.{place_of}
-use Rattle.teb_history.proofs.AscendingLists.{place_in, gap_in, put-set, put-insert}
+use Rattle.teb_rules.specs.history.Ascending.{place_of}
+use Rattle.teb_rules.proofs.lemmas.history.AscendingLists.{place_in, gap_in, put-set, put-insert}
 use Rattle.arena_multimap.specs.Arenas.{list_at}
 use Rattle.arena_multimap.proofs.Segments.{less_room}
 use Rattle.arena_multimap.proofs.arena.Arena.put_by_number.Goals as goal

@@ -1,6 +1,6 @@
 use Rattle.std.proofs.Common.{◌≡◌, ◌∙◌, ℕ, cond, eqb, [], refl, ap, subst}
 use Rattle.std.specs.Ordering.{is_eq}
-use Rattle.teb_names.specs.Cells.{cell_cmp}
+use Rattle.teb_rules.specs.names.Cells.{cell_cmp}
 use Rattle.sorted_multimap.specs.Multimap.{values_in}
 use Rattle.arena_multimap.specs.Arenas.{list_at}
 use Rattle.arena_multimap.proofs.CellLists.{kept_listed, kept_values}

@@ -1,5 +1,5 @@
 use Rattle.std.proofs.Common.{sym, ◌∙◌, ap}
-use Rattle.teb_names.specs.Cells.{cell_cmp}
+use Rattle.teb_rules.specs.names.Cells.{cell_cmp}
 use Rattle.arena_multimap.specs.Arenas.{list_at}
 use Rattle.sorted_multimap.specs.Multimap.{values_in}
 use Rattle.arena_multimap.proofs.CellLists.{shown}

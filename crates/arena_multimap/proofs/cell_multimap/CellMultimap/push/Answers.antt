@@ -1,6 +1,6 @@
 use Rattle.std.proofs.Common.{◌≡◌, ◌+◌, ◌-◌, ◌∙◌, ◌++◌, ◌∷◌, ℕ, cond, eqb, [], max, sym, ap, subst, List, arith}
 use Rattle.std.specs.Ordering.{is_eq}
-use Rattle.teb_names.specs.Cells.{cell_cmp}
+use Rattle.teb_rules.specs.names.Cells.{cell_cmp}
 use Rattle.cell_index.specs.Cells.{place_in}
 use Rattle.sorted_multimap.specs.Multimap.{values_in}
 use Rattle.arena_multimap.specs.Arenas.{list_at, lists}

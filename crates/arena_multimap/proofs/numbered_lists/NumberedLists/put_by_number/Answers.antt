@@ -1,5 +1,5 @@
 use Rattle.std.proofs.Common.{◌≡◌, ℕ, ◌+◌, ◌<◌, ◌≤◌, ◌∙◌, max, Bool, cond, eqb, List, set, length, sym, ap, arith}
-use Rattle.teb_history.specs.Ascending.{put_by}
+use Rattle.teb_rules.specs.history.Ascending.{put_by}
 use Rattle.arena_multimap.specs.declared.arena.Arena.{Arena}
 use Rattle.arena_multimap.specs.Arenas.{list_at, lists}
 use Rattle.arena_multimap.specs.NumberedLists.{Shown, all_lists, list_in}

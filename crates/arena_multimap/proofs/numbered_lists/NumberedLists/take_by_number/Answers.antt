@@ -1,6 +1,6 @@
 use Rattle.std.proofs.Common.{◌≡◌, ◌∙◌, eqb, not, filter, List, [], remove, set, sym, ap, subst}
-use Rattle.teb_history.specs.Ascending.{IsAscendingBy, place_of}
-use Rattle.teb_history.proofs.AscendingLists.{place_in}
+use Rattle.teb_rules.specs.history.Ascending.{IsAscendingBy, place_of}
+use Rattle.teb_rules.proofs.lemmas.history.AscendingLists.{place_in}
 use Rattle.sorted_multimap.proofs.NumberedValues.{without_found, without_missing}
 use Rattle.std.proofs.lemmas.List.{set-get_or}
 use Rattle.arena_multimap.specs.Arenas.{list_at}

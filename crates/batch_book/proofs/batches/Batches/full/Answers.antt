@@ -1,7 +1,7 @@
 use Rattle.std.proofs.Common.{◌≡◌, ◌∙◌, ◌≤◌, ◌<◌, ℕ, Bool, cond, List, eqb, find, length, Some, None, sym, ap, rules, arith}
 use Rattle.std.proofs.lemmas.Bool.{le-leb, lt-leb}
 use Rattle.std.proofs.lemmas.List.{get_or_default}
-use Rattle.teb_history.specs.Written.{txn_of}
+use Rattle.teb_rules.specs.history.Written.{txn_of}
 use Rattle.batch_book.specs.declared.members.Member.{Member}
 use Rattle.batch_book.specs.declared.members.Batch.{Batch}
 use Rattle.batch_book.specs.Book.{Book, full_on}

@@ -1,6 +1,6 @@
 use Rattle.std.proofs.Common.{◌≡◌, ◌<◌, ◌∙◌, ◌++◌, ◌∷◌, [], Option, ℤ, FitsSigned, length, unwrap_or, pos, ap, arith, rules, w64, to_z, of_z}
 use Rattle.std.proofs.lemmas.Int.{to_z-of_z}
-use Rattle.teb_names.proofs.Padding.{held_next}
+use Rattle.teb_rules.proofs.lemmas.names.Padding.{held_next}
 use Rattle.c_forms.proofs.values.ValueList.push.Goals as goal
 
 number : (z : ℤ) (v : Option ℤ) → FitsSigned w64 z → z ≡ unwrap_or v (pos 0) → to_z w64 (of_z w64 z) ≡ unwrap_or v (pos 0)

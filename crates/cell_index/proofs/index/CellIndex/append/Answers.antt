@@ -1,5 +1,5 @@
 use Rattle.std.proofs.Common.{◌≡◌, ◌+◌, [], ◌∷◌, ◌++◌, length, ◌∙◌, sym, ap, subst, arith, if◌then◌else◌}
-use Rattle.teb_names.specs.Cells.{same_cell}
+use Rattle.teb_rules.specs.names.Cells.{same_cell}
 use Rattle.cell_index.specs.Blocks.{number_or}
 use Rattle.cell_index.specs.Cells.{place_in}
 use Rattle.cell_index.specs.Index.{far_number}

@@ -1,5 +1,5 @@
 use Rattle.std.proofs.Common.{◌∙◌, ◌==◌, ◌+◌, ap, sym, arith, length, length-set, if◌then◌else◌}
-use Rattle.teb_names.specs.Cells.{same_cell}
+use Rattle.teb_rules.specs.names.Cells.{same_cell}
 use Rattle.chain_pool.specs.declared.places.Chain.{Chain}
 use Rattle.chain_pool.specs.Heads.{CellHeads, chain_at, chain_head, last_of}
 use Rattle.chain_pool.proofs.Beside.{grown, at_within, was_chain, lengthened, field_chosen}

@@ -1,5 +1,5 @@
 use Rattle.std.proofs.Common.{◌∙◌, ◌-◌, ap, arith, if◌then◌else◌}
-use Rattle.teb_names.specs.Cells.{same_cell}
+use Rattle.teb_rules.specs.names.Cells.{same_cell}
 use Rattle.chain_pool.specs.declared.places.Chain.{Chain}
 use Rattle.chain_pool.specs.Heads.{CellHeads, chain_at, chain_head, last_of, without_place, last_without}
 use Rattle.chain_pool.proofs.Beside.{busy_at, chain_here, shortened, field_chosen}

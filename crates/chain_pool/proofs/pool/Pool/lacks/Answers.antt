@@ -1,6 +1,6 @@
 use Rattle.std.proofs.Common.{Bool, true, false, not, sym, List, Some, ℕ, ◌<◌, ◌≡◌, subst}
 use Rattle.std.specs.Bool.{OnTrue, OnFalse}
-use Rattle.teb_names.specs.declared.Cell.{Cell}
+use Rattle.teb_rules.specs.declared.names.Cell.{Cell}
 use Rattle.chain_pool.specs.declared.places.Place.{Place}
 use Rattle.chain_pool.specs.declared.places.Head.{Head}
 use Rattle.chain_pool.specs.Threads.{steps}

@@ -1,5 +1,5 @@
 use Rattle.std.proofs.Common.{◌≡◌, ◌+◌, ℕ}
-use Rattle.teb_names.specs.declared.Cell.{Cell}
+use Rattle.teb_rules.specs.declared.names.Cell.{Cell}
 use Rattle.version_chain.specs.Lists.{without}
 use Rattle.chain_pool.specs.Heads.{chain_head, last_of, writer_head, with_head}
 use Rattle.chain_pool.specs.Linked.{Linked, HasLasts}

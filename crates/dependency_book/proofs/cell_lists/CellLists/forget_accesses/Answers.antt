@@ -1,8 +1,8 @@
 use Rattle.std.proofs.Common.{◌≡◌, Bool, cond, eqb, refl, sym, ◌∙◌, ap}
-use Rattle.teb_names.specs.declared.Txn.{Txn}
-use Rattle.teb_names.specs.declared.Cell.{Cell}
-use Rattle.teb_names.specs.Cells.{same_cell}
-use Rattle.teb_history.specs.OwnEvents.{own_events}
+use Rattle.teb_rules.specs.declared.names.Txn.{Txn}
+use Rattle.teb_rules.specs.declared.names.Cell.{Cell}
+use Rattle.teb_rules.specs.names.Cells.{same_cell}
+use Rattle.teb_rules.specs.history.OwnEvents.{own_events}
 use Rattle.sorted_multimap.specs.LastMatches.{without_last}
 use Rattle.dependency_book.specs.Dependencies.{reads, puts}
 use Rattle.dependency_book.specs.Places.{readers_of, writers_of}

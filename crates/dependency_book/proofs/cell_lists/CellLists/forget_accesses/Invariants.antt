@@ -1,6 +1,6 @@
 use Rattle.std.proofs.Common.{◌≡◌, eqb}
-use Rattle.teb_names.specs.declared.Txn.{Txn}
-use Rattle.teb_history.specs.OwnEvents.{own_events}
+use Rattle.teb_rules.specs.declared.names.Txn.{Txn}
+use Rattle.teb_rules.specs.history.OwnEvents.{own_events}
 use Rattle.dependency_book.specs.Dependencies.{reads, puts}
 use Rattle.dependency_book.specs.Places.{readers_of, writers_of}
 use Rattle.dependency_book.proofs.MultimapEdits.{IsForgetting}

@@ -1,6 +1,6 @@
 use Rattle.std.proofs.Common.{◌≡◌, ◌∙◌, ℕ, cond, eqb, List, Option, Some, None, ap, subst}
-use Rattle.teb_names.specs.declared.Txn.{Txn}
-use Rattle.teb_names.specs.Cells.{same_cell}
+use Rattle.teb_rules.specs.declared.names.Txn.{Txn}
+use Rattle.teb_rules.specs.names.Cells.{same_cell}
 use Rattle.sorted_multimap.specs.LastMatches.{IsLastPlace, without_last}
 use Rattle.sorted_multimap.proofs.CellValues.{taken_none}
 use Rattle.arena_multimap.specs.NumberedLists.{list_in}

@@ -1,5 +1,5 @@
 use Rattle.std.proofs.Common.{◌∙◌, ◌++◌, ◌∷◌, [], cond, ap}
-use Rattle.teb_names.specs.Cells.{same_cell}
+use Rattle.teb_rules.specs.names.Cells.{same_cell}
 use Rattle.dependency_book.specs.Places.{Shown, readers_of, writers_of}
 use Rattle.cell_index.proofs.ListEdits.{placed, placed_within}
 use Rattle.dependency_book.proofs.Places.{pushed}

@@ -1,8 +1,8 @@
 use Rattle.std.proofs.Common.{arith, eqb, ap, ◌∙◌, List, sym, subst}
 use Rattle.std.specs.List.{count_by}
-use Rattle.teb_names.specs.declared.Txn.{Txn}
-use Rattle.teb_history.specs.declared.Event.{Event}
-use Rattle.teb_history.specs.OwnEvents.{own_events}
+use Rattle.teb_rules.specs.declared.names.Txn.{Txn}
+use Rattle.teb_rules.specs.declared.history.Event.{Event}
+use Rattle.teb_rules.specs.history.OwnEvents.{own_events}
 use Rattle.sorted_multimap.specs.LastMatches.{without_lasts}
 use Rattle.dependency_book.specs.Dependencies.{reads, puts}
 use Rattle.dependency_book.specs.Places.{Room, HasRoom, readers_of, writers_of}

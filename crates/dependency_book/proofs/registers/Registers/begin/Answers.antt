@@ -1,7 +1,7 @@
 use Rattle.std.proofs.Common.{List, refl, sym, ◌∙◌, ap, subst, arith}
-use Rattle.teb_names.specs.declared.Txn.{Txn}
-use Rattle.teb_history.specs.Ascending.{IsAscendingBy}
-use Rattle.teb_history.specs.Live.{number_of}
+use Rattle.teb_rules.specs.declared.names.Txn.{Txn}
+use Rattle.teb_rules.specs.history.Ascending.{IsAscendingBy}
+use Rattle.teb_rules.specs.history.Live.{number_of}
 use Rattle.dependency_book.specs.Books.{list_of}
 use Rattle.dependency_book.proofs.SourceLists.{one_more}
 use Rattle.dependency_book.proofs.Noted.{noted_began}

@@ -1,6 +1,6 @@
 use Rattle.std.proofs.Common.{◌≡◌, ◌∷◌, subst, sym, ◌∙◌, ap, inl, inr}
-use Rattle.teb_history.specs.declared.Event.{Event}
-use Rattle.teb_history.specs.Accesses.{wrote}
+use Rattle.teb_rules.specs.declared.history.Event.{Event}
+use Rattle.teb_rules.specs.history.Accesses.{wrote}
 use Rattle.dependency_book.specs.Orderly.{MayFollow}
 use Rattle.dependency_book.specs.Books.{BookOf, lists_of}
 use Rattle.dependency_book.specs.Dependencies.{IsAgain}

@@ -1,9 +1,9 @@
 use Rattle.std.proofs.Common.{◌≡◌, ◌≤◌, ◌<◌, ℕ, List, [], get_or, arith, ap, ap₂, ◌∙◌, is_some, length}
 use Rattle.std.proofs.lemmas.List.{get_or_default}
-use Rattle.teb_names.specs.declared.Spot.{Spot}
+use Rattle.teb_rules.specs.declared.names.Spot.{Spot}
 use Rattle.teb_rules.specs.Setup.{profile}
 use Rattle.phase_api.specs.FactsView.{setup_of, events_of}
-use Rattle.teb_history.specs.Phases.{begun_count, kind_of}
+use Rattle.teb_rules.specs.history.Phases.{begun_count, kind_of}
 use Rattle.teb_rules.specs.Steps.{least_step, cursor}
 use Rattle.cursor_book.proofs.Moves.{length-cursors, cursor_at}
 use Rattle.engine_core.proofs.Running.{unfinished_numbered, unfinished_typed}

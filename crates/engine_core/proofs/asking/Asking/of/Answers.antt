@@ -1,6 +1,6 @@
 use Rattle.std.proofs.Common.{◌≡◌, ◌<◌, subst, sym, rules, true}
-use Rattle.teb_names.specs.declared.Spot.{Spot}
-use Rattle.teb_history.specs.Phases.{begun}
+use Rattle.teb_rules.specs.declared.names.Spot.{Spot}
+use Rattle.teb_rules.specs.history.Phases.{begun}
 use Rattle.phase_api.specs.FactsView.{setup_of, events_of}
 use Rattle.engine_core.proofs.Running.{begun_unfinished, unfinished_typed}
 use Rattle.engine_core.proofs.asking.Asking.of.Goals as goal

@@ -10,7 +10,7 @@ use Rattle.engine_core.specs.declared.engine.Engine.TheInside.{Inside}
 use Rattle.engine_core.specs.EngineModel.{EngineModel, IsEngine}
 use Rattle.engine_core.specs.States.{IsReady}
 use Rattle.engine_core.specs.Decisions.{carried}
-use Rattle.teb_laws.specs.Lawful.{Lawful}
+use Rattle.teb_rules.specs.laws.Lawful.{Lawful}
 use Rattle.engine_core.proofs.engine.Engine.ask.Goals.{in-Reply, in-Scan}
 use Rattle.engine_core.proofs.engine.Engine.ask.Goals as goal
 

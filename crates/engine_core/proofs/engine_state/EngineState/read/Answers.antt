@@ -1,6 +1,6 @@
 use Rattle.std.proofs.Common.{◌≡◌, true, subst, sym, ap, ◌∙◌}
-use Rattle.teb_history.specs.Written.{Written}
-use Rattle.teb_history.specs.Phases.{unfinished}
+use Rattle.teb_rules.specs.history.Written.{Written}
+use Rattle.teb_rules.specs.history.Phases.{unfinished}
 use Rattle.teb_rules.specs.Setup.{Store}
 use Rattle.teb_rules.specs.Versions.{read}
 use Rattle.store_setup.specs.Stores.{store_of}

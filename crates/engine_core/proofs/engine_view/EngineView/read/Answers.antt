@@ -1,4 +1,4 @@
-use Rattle.teb_laws.proofs.Sound.{tree_facts}
+use Rattle.teb_rules.proofs.lemmas.laws.Sound.{tree_facts}
 use Rattle.commit_gate.proofs.CommitWaits.{typed_now}
 use Rattle.engine_core.proofs.Running.{unfinished_kept}
 use Rattle.engine_core.proofs.engine_view.EngineView.read.Goals as goal

@@ -1,7 +1,7 @@
 use Rattle.std.proofs.Common.{◌≡◌, ◌∙◌, List, ℕ, ap, subst}
 use Rattle.teb_rules.specs.Ranks.{serial_order}
 use Rattle.teb_rules.specs.Serializes.{Serializes}
-use Rattle.teb_laws.proofs.Laws.{every_run_serializes}
+use Rattle.teb_rules.proofs.lemmas.laws.Laws.{every_run_serializes}
 use Rattle.engine_core.specs.EngineModel.{EngineModel}
 use Rattle.engine_core.proofs.Reached.{law_of}
 use Rattle.tree_switch.proofs.WholeOrder.{is_serial}

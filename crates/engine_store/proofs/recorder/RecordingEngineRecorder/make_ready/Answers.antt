@@ -1,5 +1,5 @@
 use Rattle.std.proofs.Common.{sym, subst, List}
-use Rattle.teb_history.specs.declared.Event.{Event}
+use Rattle.teb_rules.specs.declared.history.Event.{Event}
 use Rattle.teb_rules.specs.Setup.{Store}
 use Rattle.commit_journal.specs.Answered.{IsBodyFor}
 use Rattle.engine_store.proofs.recorder.RecordingEngineRecorder.make_ready.Goals as goal

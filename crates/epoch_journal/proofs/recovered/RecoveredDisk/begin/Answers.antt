@@ -1,5 +1,5 @@
 use Rattle.std.proofs.Common.{◌∷◌, [], ◌∙◌, Err, ap, arith, length, sym, subst, List, ℕ, ℤ}
-use Rattle.teb_names.specs.declared.Cell.{Cell}
+use Rattle.teb_rules.specs.declared.names.Cell.{Cell}
 use Rattle.crash_disk.specs.Disk.{LeavesOnly, Only}
 use Rattle.record_journal.proofs.Moments.{weaker}
 use Rattle.epoch_journal.specs.Layout.{layout}

@@ -1,5 +1,5 @@
 use Rattle.std.proofs.Common.{◌∙◌, Err, ap, arith, length, sym, subst, List, ℕ}
-use Rattle.teb_names.specs.Rows.{row_of}
+use Rattle.teb_rules.specs.names.Rows.{row_of}
 use Rattle.crash_disk.specs.Disk.{Only}
 use Rattle.epoch_journal.specs.Layout.{half_size, layout}
 use Rattle.epoch_journal.specs.Read.{IsReadAs}

@@ -1,6 +1,6 @@
 use Rattle.std.proofs.Common.{rules, ◌≡◌, Some, refl, sym, subst}
-use Rattle.teb_names.specs.declared.Reply.TheVariants.{Committed}
-use Rattle.teb_names.specs.Rows.{row_of}
+use Rattle.teb_rules.specs.declared.names.Reply.TheVariants.{Committed}
+use Rattle.teb_rules.specs.names.Rows.{row_of}
 use Rattle.crash_disk.specs.Disk.{LeavesOnly}
 use Rattle.record_journal.specs.Journal.{IsBody}
 use Rattle.epoch_journal.specs.Telling.{TellsOn}

@@ -1,5 +1,5 @@
 use Rattle.std.proofs.Common.{rules, ◌≡◌, ◌+◌, ◌∙◌, sym, ap, subst, arith}
-use Rattle.teb_names.specs.declared.Reply.TheVariants.{Committed}
+use Rattle.teb_rules.specs.declared.names.Reply.TheVariants.{Committed}
 use Rattle.record_journal.specs.Journal.{IsBody}
 use Rattle.epoch_store.specs.Gathering.{size_of}
 use Rattle.epoch_store.specs.Queue.{Queue}

@@ -1,5 +1,5 @@
 use Rattle.std.proofs.Common.{◌≡◌, ◌-◌, List, ℕ, None, refl, sym, subst, arith, ◌∙◌}
-use Rattle.teb_names.specs.Rows.{row_of}
+use Rattle.teb_rules.specs.names.Rows.{row_of}
 use Rattle.crash_disk.specs.Disk.{LeavesOnly}
 use Rattle.epoch_journal.specs.Layout.{half_size}
 use Rattle.epoch_journal.specs.Telling.{TellsOn}

@@ -1,5 +1,5 @@
 use Rattle.std.proofs.Common.{List, ℕ, subst}
-use Rattle.teb_names.specs.Rows.{row_of}
+use Rattle.teb_rules.specs.names.Rows.{row_of}
 use Rattle.epoch_journal.specs.Telling.{TellsOn}
 use Rattle.epoch_store.specs.Stored.{Stored}
 use Rattle.epoch_store.proofs.store.EpochStore.into_parts.Goals as goal

@@ -1,5 +1,5 @@
 use Rattle.std.proofs.Common.{refl}
-use Rattle.teb_names.specs.Rows.{row_of}
+use Rattle.teb_rules.specs.names.Rows.{row_of}
 use Rattle.epoch_store.proofs.Answering.{keeps_same}
 use Rattle.epoch_store.proofs.store.EpochStore.renew.Goals as goal
 

@@ -1,5 +1,5 @@
 use Rattle.std.proofs.Common.{◌<◌, subst, arith}
-use Rattle.teb_names.specs.Rows.{row_of}
+use Rattle.teb_rules.specs.names.Rows.{row_of}
 use Rattle.epoch_journal.specs.Kept.{Keeps}
 use Rattle.epoch_journal.proofs.Sizes.{small_half}
 use Rattle.epoch_store.specs.Stored.{Stored}

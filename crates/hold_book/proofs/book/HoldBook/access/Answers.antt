@@ -1,7 +1,7 @@
 use Rattle.std.proofs.Common.{◌∙◌, ap, cond, Bool}
 use Rattle.hold_book.specs.Books.{shown, accessed}
 use Rattle.hold_book.proofs.Entering.{edited_lent}
-use Rattle.teb_names.proofs.SameCells.{same_itself}
+use Rattle.teb_rules.proofs.lemmas.names.SameCells.{same_itself}
 use Rattle.hold_book.proofs.Holders.{stands_got, stands_put}
 use Rattle.hold_book.proofs.book.HoldBook.access.Goals as goal
 

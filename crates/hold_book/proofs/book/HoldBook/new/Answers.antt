@@ -1,6 +1,6 @@
 use Rattle.std.proofs.Common.{arith}
 use Rattle.std.proofs.lemmas.Grind.{common_steps}
-use Rattle.teb_history.specs.Phases.{txns, begun_count, numbers}
+use Rattle.teb_rules.specs.history.Phases.{txns, begun_count, numbers}
 use Rattle.hold_book.proofs.book.HoldBook.new.Goals as goal
 
 pub returns-clause-empty : goal.returns-clause-empty

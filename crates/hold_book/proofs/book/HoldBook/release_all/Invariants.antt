@@ -1,4 +1,4 @@
-use Rattle.teb_history.specs.OwnEvents.{own_events}
+use Rattle.teb_rules.specs.history.OwnEvents.{own_events}
 use Rattle.hold_book.proofs.Releasing.{IsReleasing}
 use Rattle.hold_book.proofs.book.HoldBook.release_all.Given as goal
 

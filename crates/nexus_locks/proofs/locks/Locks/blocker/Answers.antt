@@ -1,5 +1,5 @@
 use Rattle.std.proofs.Common.{◌≡◌, ◌∙◌, List, find, get_or, sym, ap, true, false}
-use Rattle.teb_names.specs.declared.Node.{Node}
+use Rattle.teb_rules.specs.declared.names.Node.{Node}
 use Rattle.hold_book.specs.declared.Hold.{Hold}
 use Rattle.phase_api.specs.FactsView.{setup_of, events_of}
 use Rattle.access_conflicts.specs.Blockers.{in_the_way}

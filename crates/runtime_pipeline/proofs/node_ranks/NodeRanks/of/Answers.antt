@@ -1,7 +1,7 @@
 use Rattle.std.proofs.Common.{◌∙◌, List, ap, arith}
-use Rattle.teb_names.specs.declared.Kind.{Kind}
+use Rattle.teb_rules.specs.declared.names.Kind.{Kind}
 use Rattle.teb_rules.specs.Setup.{Setup}
-use Rattle.cc_tree.specs.Grown.{kind_numbers}
+use Rattle.store_setup.specs.tree.Grown.{kind_numbers}
 use Rattle.runtime_pipeline.proofs.Ranks.{some_below, under_known, ranks_are}
 use Rattle.runtime_pipeline.proofs.node_ranks.NodeRanks.of.Goals as goal
 

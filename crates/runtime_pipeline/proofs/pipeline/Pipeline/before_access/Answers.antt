@@ -1,5 +1,5 @@
 use Rattle.std.proofs.Common.{◌≡◌, ◌∙◌, ap, sym, ℕ, Some, ltb, find}
-use Rattle.teb_history.specs.Phases.{txns, kind_of}
+use Rattle.teb_rules.specs.history.Phases.{txns, kind_of}
 use Rattle.teb_rules.specs.Steps.{rank_of_table, rank_of_step, cursor}
 use Rattle.phase_api.specs.FactsView.{setup_of, events_of}
 use Rattle.access_conflicts.specs.Waits.{some_txn, wait_for_txn}

@@ -1,6 +1,6 @@
 use Rattle.std.proofs.Common.{◌≡◌, ◌∙◌, ap, sym, ℕ, List, [], get_or}
-use Rattle.teb_names.specs.declared.Kind.{Kind}
-use Rattle.teb_history.specs.Phases.{kind_of}
+use Rattle.teb_rules.specs.declared.names.Kind.{Kind}
+use Rattle.teb_rules.specs.history.Phases.{kind_of}
 use Rattle.teb_rules.specs.Setup.{profile}
 use Rattle.teb_rules.specs.Steps.{cursor, rank_of_step, rank_of_table}
 use Rattle.phase_api.specs.FactsView.{setup_of, events_of}

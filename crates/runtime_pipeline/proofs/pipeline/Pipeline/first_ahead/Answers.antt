@@ -1,5 +1,5 @@
 use Rattle.std.proofs.Common.{◌∙◌, ap, sym, not, List, find}
-use Rattle.teb_names.specs.declared.Txn.{Txn}
+use Rattle.teb_rules.specs.declared.names.Txn.{Txn}
 use Rattle.phase_api.specs.FactsView.{setup_of, events_of}
 use Rattle.access_conflicts.proofs.Blockers.{find_here, find_next, find_end}
 use Rattle.runtime_pipeline.specs.Standing.{passed_some}

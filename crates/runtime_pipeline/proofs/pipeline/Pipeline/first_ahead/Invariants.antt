@@ -1,5 +1,5 @@
 use Rattle.std.proofs.Common.{◌≡◌, not, drop, find}
-use Rattle.teb_names.specs.declared.Txn.{Txn}
+use Rattle.teb_rules.specs.declared.names.Txn.{Txn}
 use Rattle.phase_api.specs.FactsView.{setup_of, events_of}
 use Rattle.runtime_pipeline.specs.Standing.{passed_some}
 use Rattle.runtime_pipeline.proofs.pipeline.Pipeline.first_ahead.Given as goal

@@ -1,5 +1,5 @@
 use Rattle.std.proofs.Common.{◌≡◌, ◌∙◌, ◌&&◌, ℕ, List, not, find, get_or, sym, ap, true, false}
-use Rattle.teb_names.specs.declared.Node.{Node}
+use Rattle.teb_rules.specs.declared.names.Node.{Node}
 use Rattle.teb_rules.specs.Steps.{passed, rank_of_table}
 use Rattle.hold_book.specs.declared.Hold.{Hold}
 use Rattle.phase_api.specs.FactsView.{setup_of, events_of}
@@ -7,7 +7,7 @@ use Rattle.access_conflicts.specs.Blockers.{in_the_way}
 use Rattle.access_conflicts.specs.Waits.{some_txn}
 use Rattle.access_conflicts.proofs.Blockers.{holder, held_typed, find_here, find_end}
 use Rattle.teb_rules.specs.Controls.{blocks}
-use Rattle.teb_history.specs.Phases.{txns}
+use Rattle.teb_rules.specs.history.Phases.{txns}
 use Rattle.runtime_pipeline.proofs.Said.{stops, first_stop}
 use Rattle.runtime_pipeline.proofs.pipeline.Pipeline.first_holder.Goals as goal
 

@@ -1,5 +1,5 @@
 use Rattle.std.proofs.Common.{◌≡◌, ◌∙◌, ◌||◌, Bool, ltb, ap, sym}
-use Rattle.teb_history.specs.Phases.{prepared, committed, aborted, kind_of}
+use Rattle.teb_rules.specs.history.Phases.{prepared, committed, aborted, kind_of}
 use Rattle.teb_rules.specs.Steps.{passed, rank_of_step, cursor}
 use Rattle.phase_api.specs.FactsView.{setup_of, events_of}
 use Rattle.runtime_pipeline.proofs.pipeline.Pipeline.has_passed.Goals as goal

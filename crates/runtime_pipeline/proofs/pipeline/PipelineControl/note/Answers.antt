@@ -1,7 +1,7 @@
 use Rattle.std.proofs.Common.{◌≡◌, ◌∙◌, ap, sym, subst, refl, List, ℕ}
-use Rattle.teb_names.specs.declared.Node.{Node}
-use Rattle.teb_names.specs.declared.Kind.{Kind}
-use Rattle.teb_history.specs.Phases.{kind_of}
+use Rattle.teb_rules.specs.declared.names.Node.{Node}
+use Rattle.teb_rules.specs.declared.names.Kind.{Kind}
+use Rattle.teb_rules.specs.history.Phases.{kind_of}
 use Rattle.teb_rules.specs.Setup.{profile}
 use Rattle.phase_api.specs.FactsView.{setup_of, events_of}
 use Rattle.cursor_book.specs.Cursors.{CursorsOf}

@@ -1,5 +1,5 @@
 use Rattle.std.proofs.Common.{◌≡◌, ◌≤◌, ◌∙◌, ap, refl, sym, subst, inl, inr, List, length, cond, eqb}
-use Rattle.teb_names.specs.declared.Node.{Node}
+use Rattle.teb_rules.specs.declared.names.Node.{Node}
 use Rattle.phase_api.specs.FactsView.{setup_of, events_of}
 use Rattle.hold_book.specs.declared.Hold.{Hold}
 use Rattle.access_conflicts.proofs.Noting.{accessor_begun, writer_begun, typed_now}

@@ -1,5 +1,5 @@
 use Rattle.std.proofs.Common.{◌≡◌, ◌++◌, ◌<◌, ℕ, ℤ, drop, get_or}
-use Rattle.teb_names.specs.declared.Cell.{Cell}
+use Rattle.teb_rules.specs.declared.names.Cell.{Cell}
 use Rattle.script_text.specs.Texts.{rows_text}
 use Rattle.script_text.specs.Puts.{IsFront}
 use Rattle.script_text.specs.Ranges.{RowInRange}

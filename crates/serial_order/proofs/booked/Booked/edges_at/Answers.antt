@@ -1,5 +1,5 @@
 use Rattle.std.proofs.Common.{sym, ap, ◌∙◌, ◌≡◌, ◌+◌, ◌<◌, ℕ, Bool, true, false, set, length, replicate, Vec, Global, vec_len, subst, arith, rules}
-use Rattle.teb_history.specs.Phases.{begun_count, numbers}
+use Rattle.teb_rules.specs.history.Phases.{begun_count, numbers}
 use Rattle.teb_rules.specs.Batches.{start}
 use Rattle.serial_order.specs.Edges.{AreMarked}
 use Rattle.phase_api.specs.FactsView.{setup_of, events_of}

@@ -1,4 +1,4 @@
-use Rattle.teb_history.specs.Phases.{numbers}
+use Rattle.teb_rules.specs.history.Phases.{numbers}
 use Rattle.phase_api.specs.FactsView.{setup_of, events_of}
 use Rattle.serial_order.specs.Edges.{AreMarked}
 use Rattle.serial_order.proofs.booked.Booked.edges_at.Given as goal

@@ -1,6 +1,6 @@
 use Rattle.std.proofs.lemmas.Result.{IfOk-weaker}
-use Rattle.teb_history.specs.Phases.{txns}
-use Rattle.teb_laws.proofs.Sound.{tree_facts}
+use Rattle.teb_rules.specs.history.Phases.{txns}
+use Rattle.teb_rules.proofs.lemmas.laws.Sound.{tree_facts}
 use Rattle.phase_api.specs.FactsView.{setup_of, events_of}
 use Rattle.serial_order.specs.Edges.{AreMarked, MarkEdges}
 use Rattle.serial_order.proofs.EdgesOut.{root_marks, no_marks}

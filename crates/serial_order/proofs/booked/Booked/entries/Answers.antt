@@ -1,5 +1,5 @@
 use Rattle.std.proofs.Common.{◌≡◌, ◌<◌, ◌+◌, ◌++◌, List, drop, reverse, subst, subst₂, ap, length, refl, sym, ◌∙◌, vec_len, arith, rules}
-use Rattle.teb_history.specs.declared.Event.TheVariants.{Done}
+use Rattle.teb_rules.specs.declared.history.Event.TheVariants.{Done}
 use Rattle.phase_api.specs.FactsView.{setup_of, events_of}
 use Rattle.serial_order.specs.Commits.{commits_in}
 use Rattle.serial_order.specs.Keys.{entry_numbers, cut_key, HaveKeys}

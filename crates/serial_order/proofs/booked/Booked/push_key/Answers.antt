@@ -1,7 +1,7 @@
 use Rattle.std.proofs.Common.{◌++◌, ℕ, List, ap, ◌∙◌}
 use Rattle.teb_rules.specs.Tree.{path}
 use Rattle.phase_api.specs.FactsView.{setup_of, events_of}
-use Rattle.cc_tree.specs.Grown.{node_numbers}
+use Rattle.store_setup.specs.tree.Grown.{node_numbers}
 use Rattle.serial_order.proofs.Places.{on_at, key_starts, spot_told}
 use Rattle.serial_order.proofs.booked.Booked.push_key.Goals as goal
 

@@ -1,6 +1,6 @@
 use Rattle.std.proofs.Common.{◌≡◌, ◌++◌, drop}
 use Rattle.phase_api.specs.FactsView.{setup_of, events_of}
-use Rattle.cc_tree.specs.Grown.{node_numbers}
+use Rattle.store_setup.specs.tree.Grown.{node_numbers}
 use Rattle.serial_order.specs.Keys.{key_along, cut_key}
 use Rattle.serial_order.proofs.booked.Booked.push_key.Given as goal
 

@@ -1,7 +1,7 @@
 use Rattle.std.proofs.Common.{ℕ, false, get_or, sym, ap, ◌∙◌, inl, inr}
 use Rattle.teb_rules.specs.Setup.{NodeRow}
 use Rattle.phase_api.specs.FactsView.{setup_of, events_of}
-use Rattle.teb_laws.proofs.Ranks.{done_rank, start_rank}
+use Rattle.teb_rules.proofs.lemmas.laws.Ranks.{done_rank, start_rank}
 use Rattle.serial_order.proofs.Places.{snapshot_start, snapshot_close}
 use Rattle.serial_order.proofs.booked.Booked.rank.Goals as goal
 

@@ -1,5 +1,5 @@
 use Rattle.std.proofs.Common.{◌∙◌, rules}
-use Rattle.teb_history.specs.Phases.{committed}
+use Rattle.teb_rules.specs.history.Phases.{committed}
 use Rattle.phase_api.specs.FactsView.{setup_of, events_of}
 use Rattle.serial_order.proofs.LastCommitted.{of_nobody}
 use Rattle.serial_order.proofs.end_state.EndState.last_committed.Goals as goal

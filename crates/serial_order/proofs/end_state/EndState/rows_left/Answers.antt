@@ -1,6 +1,6 @@
 use Rattle.std.proofs.Common.{◌≡◌, ap, ◌∙◌}
 use Rattle.std.proofs.lemmas.Result.{IfOk-weaker}
-use Rattle.teb_names.specs.Rows.{IsAscending}
+use Rattle.teb_rules.specs.names.Rows.{IsAscending}
 use Rattle.phase_api.specs.FactsView.{events_of}
 use Rattle.serial_order.specs.EndState.{left, store}
 use Rattle.serial_order.specs.Tables.{merged_rows, IsFinalRows}

@@ -2,7 +2,7 @@ use Rattle.std.proofs.Common.{◌++◌, List, ap, subst, ◌∙◌, rules}
 use Rattle.std.proofs.lemmas.List.{nil_from_length}
 use Rattle.std.proofs.lemmas.List.Filters.{dedup_is}
 use Rattle.std.specs.List.Sorted.{IsPermutation}
-use Rattle.teb_names.specs.declared.Cell.{Cell}
+use Rattle.teb_rules.specs.declared.names.Cell.{Cell}
 use Rattle.serial_order.proofs.Seen.{only_marked, all_sorted}
 use Rattle.serial_order.proofs.seen_cells.SeenCells.ascending.Goals as goal
 

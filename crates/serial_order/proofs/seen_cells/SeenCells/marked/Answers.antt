@@ -1,6 +1,6 @@
 use Rattle.std.proofs.Common.{◌≡◌, ◌++◌, ◌∷◌, [], ◌+◌, ◌-◌, true, false, List, Vec, Global, get_or, sym, ap, ◌∙◌, append_assoc, ◌<◌, length, arith}
 use Rattle.std.proofs.lemmas.List.{get_or_read}
-use Rattle.teb_names.specs.declared.Cell.{Cell}
+use Rattle.teb_rules.specs.declared.names.Cell.{Cell}
 use Rattle.serial_order.specs.Seen.{cell_at, marked_cells}
 use Rattle.serial_order.proofs.Seen.{more_marked, more_unmarked}
 use Rattle.serial_order.proofs.seen_cells.SeenCells.marked.Goals as goal

@@ -4,7 +4,7 @@ use Rattle.hall_server.specs.declared.failure.Failure.TheVariants.{Unsure}
 use Rattle.hall_server.specs.Told.{told}
 use Rattle.session_server.specs.Growth.{own_of}
 use Rattle.session_server.specs.Turning.{SeesMore}
-use Rattle.teb_names.specs.declared.Entry.{Entry}
+use Rattle.teb_rules.specs.declared.names.Entry.{Entry}
 use Rattle.teb_rules.specs.Scripts.{entries_of}
 use Rattle.session_server.specs.Passes.{base_of}
 use Rattle.session_server.proofs.Passing.{turn_finishes, turn_kept, sees_mine, one_mine}

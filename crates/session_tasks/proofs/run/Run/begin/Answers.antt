@@ -1,5 +1,5 @@
 use Rattle.std.proofs.Common.{◌∙◌, sym, ap, subst}
-use Rattle.teb_names.specs.declared.Session.{Session}
+use Rattle.teb_rules.specs.declared.names.Session.{Session}
 use Rattle.session_tasks.specs.Scripted.{place_in}
 use Rattle.session_tasks.specs.Tasks.{IsTask}
 use Rattle.session_tasks.specs.declared.task.Progress.{Progress}

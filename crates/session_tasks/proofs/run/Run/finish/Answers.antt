@@ -2,9 +2,9 @@ use Rattle.std.proofs.Common.{◌≡◌, ℕ, suc, ◌+◌, ◌-◌, ◌<◌, Li
 use Rattle.std.specs.Option.{option_to_list}
 use Rattle.std.proofs.lemmas.Result.{err_from_is_err_and}
 use Rattle.std.proofs.lemmas.List.Elements.{All-push, All-nil}
-use Rattle.teb_names.specs.declared.TheConstants.{SESSIONS}
-use Rattle.teb_names.specs.declared.Session.{Session}
-use Rattle.teb_history.specs.Phases.{numbers}
+use Rattle.teb_rules.specs.declared.names.TheConstants.{SESSIONS}
+use Rattle.teb_rules.specs.declared.names.Session.{Session}
+use Rattle.teb_rules.specs.history.Phases.{numbers}
 use Rattle.turn_lock.specs.Counts.{count_from}
 use Rattle.session_tasks.specs.Tasks.{AreTasks, IsTask}
 use Rattle.session_tasks.specs.Served.{IsServed}

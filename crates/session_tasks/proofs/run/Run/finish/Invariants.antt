@@ -1,13 +1,13 @@
 use Rattle.std.proofs.Common.{◌≡◌, suc, ◌-◌, ◌≤◌, All, map, vec_len, vec_capacity}
 use Rattle.std.specs.VecDeque.{deque_len}
-use Rattle.teb_history.specs.Phases.{numbers}
+use Rattle.teb_rules.specs.history.Phases.{numbers}
 use Rattle.turn_lock.specs.Counts.{count_from}
 use Rattle.session_server.specs.Passes.{number_of}
 use Rattle.session_tasks.specs.Errors.{NoneFailed}
 use Rattle.session_tasks.specs.Tasks.{AreTasks, IsTask}
 use Rattle.session_tasks.specs.Served.{IsServed}
 use Rattle.session_tasks.proofs.run.Run.finish.Given as goal
-use Rattle.teb_names.specs.declared.TheConstants.{SESSIONS}
+use Rattle.teb_rules.specs.declared.names.TheConstants.{SESSIONS}
 
 abbrev pub invariant-loop-task : goal.invariant-loop-task
 invariant-loop-task g l = record {

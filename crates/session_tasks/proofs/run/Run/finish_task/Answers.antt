@@ -1,5 +1,5 @@
 use Rattle.std.proofs.Common.{ap}
-use Rattle.teb_names.specs.declared.Session.{Session}
+use Rattle.teb_rules.specs.declared.names.Session.{Session}
 use Rattle.session_tasks.proofs.TaskStages.{task_served}
 use Rattle.session_tasks.proofs.run.Run.finish_task.Goals as goal
 

@@ -1,5 +1,5 @@
 use Rattle.std.proofs.Common.{Err, ap, ◌∙◌}
-use Rattle.teb_names.specs.declared.Reply.TheVariants.{Committed}
+use Rattle.teb_rules.specs.declared.names.Reply.TheVariants.{Committed}
 use Rattle.turn_lock.specs.Seats.{view_of}
 use Rattle.shared_store.specs.declared.error.Failure.{Failure}
 use Rattle.shared_store.specs.Gaining.{SafeAt}

@@ -1,5 +1,5 @@
 use Rattle.std.proofs.Common.{ℕ, get_or, subst, ◌∙◌}
-use Rattle.teb_names.specs.declared.Txn.{Txn}
+use Rattle.teb_rules.specs.declared.names.Txn.{Txn}
 use Rattle.phase_api.specs.FactsView.{setup_of, events_of}
 use Rattle.batch_book.proofs.Telling.{joined_from}
 use Rattle.snapshot_node.specs.Leaving.{AreStarted}

@@ -1,7 +1,7 @@
 use Rattle.std.proofs.Common.{List, sym, ap, ◌∙◌}
 use Rattle.std.specs.List.{list_any}
-use Rattle.teb_history.specs.declared.Event.{Event}
-use Rattle.teb_laws.proofs.Sound.{tree_facts}
+use Rattle.teb_rules.specs.declared.history.Event.{Event}
+use Rattle.teb_rules.proofs.lemmas.laws.Sound.{tree_facts}
 use Rattle.phase_api.specs.FactsView.{setup_of, events_of}
 use Rattle.snapshot_node.proofs.AnyOf.{any_first, any_later}
 use Rattle.snapshot_node.proofs.LeadsOut.{gets_overwritten, by_reads, not_got}

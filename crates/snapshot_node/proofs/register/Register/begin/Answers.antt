@@ -1,7 +1,7 @@
 use Rattle.std.proofs.Common.{◌≡◌, ◌∙◌, List, true, false, drop, sym, ap, subst}
-use Rattle.teb_history.specs.declared.Event.{Event}
-use Rattle.teb_history.specs.declared.Event.TheVariants.{Began}
-use Rattle.teb_history.specs.Phases.{begun}
+use Rattle.teb_rules.specs.declared.history.Event.{Event}
+use Rattle.teb_rules.specs.declared.history.Event.TheVariants.{Began}
+use Rattle.teb_rules.specs.history.Phases.{begun}
 use Rattle.teb_rules.specs.Tree.{on, side}
 use Rattle.phase_api.specs.FactsView.{setup_of, events_of}
 use Rattle.access_conflicts.proofs.Noting.{orderly_now, typed_now}

@@ -1,5 +1,5 @@
 use Rattle.std.proofs.Common.{◌≡◌, ◌∙◌, ◌∷◌, ◌-◌, List, refl, sym, ap, subst, arith, drop, length, inl, inr}
-use Rattle.teb_history.specs.declared.Event.{Event}
+use Rattle.teb_rules.specs.declared.history.Event.{Event}
 use Rattle.phase_api.specs.FactsView.{setup_of, events_of}
 use Rattle.phase_api.specs.Calls.{IsNewest, MayNote}
 use Rattle.snapshot_node.specs.Standing.{SnapshotStand}

@@ -1,6 +1,6 @@
 use Rattle.std.proofs.Common.{ap, ap₂, not, sym, ◌∙◌}
 use Rattle.std.proofs.lemmas.Bool.{both_ways, false_from_ne_true}
-use Rattle.teb_laws.proofs.Sound.{tree_facts}
+use Rattle.teb_rules.proofs.lemmas.laws.Sound.{tree_facts}
 use Rattle.phase_api.specs.FactsView.{setup_of, events_of}
 use Rattle.snapshot_node.specs.declared.marks.Mark.{Mark}
 use Rattle.snapshot_node.specs.Marks.{is_ahead}

@@ -1,14 +1,14 @@
 use Rattle.std.proofs.Common.{◌≡◌, ◌∙◌, ◌∷◌, ◌++◌, [], ℕ, true, false, List, Some, sym, ap, subst, drop, take, length, arith}
 use Rattle.std.proofs.Math.Seq.{take-append_seam}
-use Rattle.teb_names.specs.declared.Node.{Node}
-use Rattle.teb_names.specs.declared.Txn.{Txn}
-use Rattle.teb_history.specs.declared.Event.{Event}
-use Rattle.teb_history.specs.Phases.{begun}
+use Rattle.teb_rules.specs.declared.names.Node.{Node}
+use Rattle.teb_rules.specs.declared.names.Txn.{Txn}
+use Rattle.teb_rules.specs.declared.history.Event.{Event}
+use Rattle.teb_rules.specs.history.Phases.{begun}
 use Rattle.teb_rules.specs.Tree.{on}
 use Rattle.access_conflicts.proofs.Noting.{typed_now}
 use Rattle.batch_book.proofs.Telling.{joined_began, on_joined}
 use Rattle.phase_api.specs.FactsView.{setup_of, events_of}
-use Rattle.teb_laws.specs.Pivots.{IsSettled}
+use Rattle.teb_rules.specs.laws.Pivots.{IsSettled}
 use Rattle.snapshot_node.specs.declared.marks.Mark.{Mark}
 use Rattle.snapshot_node.specs.Marks.{no_mark, HaveGrown, MarkedStand}
 use Rattle.snapshot_node.proofs.Grown.{grown_none}

@@ -1,5 +1,5 @@
 use Rattle.std.proofs.Common.{List, sym, subst}
-use Rattle.teb_names.specs.declared.Node.{Node}
+use Rattle.teb_rules.specs.declared.names.Node.{Node}
 use Rattle.snapshot_node.specs.declared.marks.Mark.{Mark}
 use Rattle.snapshot_node.specs.Marks.{AreMarked}
 use Rattle.snapshot_node.proofs.snapshot.SnapshotControl.reserve.Goals as goal

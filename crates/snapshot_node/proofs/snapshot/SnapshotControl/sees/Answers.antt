@@ -1,5 +1,5 @@
 use Rattle.std.proofs.Common.{◌∙◌}
-use Rattle.teb_laws.proofs.Nodes.{meets_parts}
+use Rattle.teb_rules.proofs.lemmas.laws.Nodes.{meets_parts}
 use Rattle.phase_api.specs.FactsView.{setup_of, events_of}
 use Rattle.snapshot_node.proofs.Said.{snapshot_sees}
 use Rattle.snapshot_node.proofs.snapshot.SnapshotControl.sees.Goals as goal

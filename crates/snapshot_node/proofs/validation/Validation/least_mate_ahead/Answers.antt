@@ -1,5 +1,5 @@
 use Rattle.std.proofs.Common.{sym, subst}
-use Rattle.teb_laws.proofs.Sound.{tree_facts}
+use Rattle.teb_rules.proofs.lemmas.laws.Sound.{tree_facts}
 use Rattle.batch_book.proofs.Numbered.{unfinished_parts}
 use Rattle.phase_api.specs.FactsView.{setup_of, events_of}
 use Rattle.access_book.specs.Touched.{Reads, Puts}

@@ -1,6 +1,6 @@
 use Rattle.std.proofs.Common.{◌∙◌, sym, ap}
 use Rattle.phase_api.specs.FactsView.{setup_of, events_of}
-use Rattle.teb_laws.proofs.Sound.{tree_facts}
+use Rattle.teb_rules.proofs.lemmas.laws.Sound.{tree_facts}
 use Rattle.snapshot_node.specs.Pivots.{break_by}
 use Rattle.snapshot_node.proofs.Batchmates.{leads_here}
 use Rattle.snapshot_node.proofs.Searching.{none_said, pivot_said}

@@ -1,5 +1,5 @@
 use Rattle.std.proofs.Common.{◌||◌, cond, ap, Bool}
-use Rattle.teb_history.specs.Ascending.{put_by}
+use Rattle.teb_rules.specs.history.Ascending.{put_by}
 use Rattle.sorted_multimap.specs.Buckets.{bucket_values}
 use Rattle.sorted_multimap.proofs.BucketEdits.{one_taken}
 use Rattle.sorted_multimap.proofs.bucket.Bucket.join_among.Goals as goal

@@ -1,5 +1,5 @@
 use Rattle.std.proofs.Common.{◌≡◌, ◌-◌, ◌+◌, ◌∙◌, ap, sym, arith, take, drop, List}
-use Rattle.teb_history.specs.Ascending.{place_of}
+use Rattle.teb_rules.specs.history.Ascending.{place_of}
 use Rattle.sorted_multimap.specs.Buckets.{bucket_values}
 use Rattle.sorted_multimap.proofs.BucketEdits.{range_held, found_in, missing_in}
 use Rattle.sorted_multimap.proofs.bucket.Bucket.place_in.Goals as goal

@@ -1,6 +1,6 @@
 use Rattle.std.proofs.Common.{◌∙◌, sym, ap, subst, arith, cond, List}
 use Rattle.std.specs.Result.{is_err}
-use Rattle.teb_history.specs.Ascending.{IsAscendingBy, place_of, put_by}
+use Rattle.teb_rules.specs.history.Ascending.{IsAscendingBy, place_of, put_by}
 use Rattle.sorted_multimap.specs.Multimap.{values_in}
 use Rattle.sorted_multimap.proofs.SpreadEntries.{located, located_shown, taken_spread, taken_values}
 use Rattle.sorted_multimap.proofs.multimap.Multimap.add_by_number.Goals as goal

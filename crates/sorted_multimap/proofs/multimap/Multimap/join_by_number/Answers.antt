@@ -2,7 +2,7 @@ use Rattle.std.proofs.Common.{◌≡◌, ◌-◌, ◌==◌, ◌||◌, ◌∙◌,
 use mir.Val.{bool_byte}
 use Rattle.std.specs.Ordering.{is_eq}
 use Rattle.std.specs.Result.{is_err}
-use Rattle.teb_history.specs.Ascending.{IsAscendingBy, place_of, put_by}
+use Rattle.teb_rules.specs.history.Ascending.{IsAscendingBy, place_of, put_by}
 use Rattle.sorted_multimap.specs.Multimap.{values_in}
 use Rattle.sorted_multimap.specs.Buckets.{entries_of}
 use Rattle.sorted_multimap.proofs.BucketEdits.{joined_edit}

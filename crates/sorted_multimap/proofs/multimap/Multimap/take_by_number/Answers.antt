@@ -1,6 +1,6 @@
 use Rattle.std.proofs.Common.{◌∙◌, sym, ap, subst, arith, cond, eqb, filter, not, List}
 use Rattle.std.specs.Ordering.{is_eq}
-use Rattle.teb_history.specs.Ascending.{IsAscendingBy}
+use Rattle.teb_rules.specs.history.Ascending.{IsAscendingBy}
 use Rattle.sorted_multimap.specs.Multimap.{values_in}
 use Rattle.sorted_multimap.proofs.SpreadEntries.{located, located_values, located_room, put_spread, put_values}
 use Rattle.sorted_multimap.proofs.multimap.Multimap.take_by_number.Goals as goal

@@ -1,5 +1,5 @@
 use Rattle.std.proofs.Common.{sym, subst}
-use Rattle.teb_names.specs.declared.naming.NameBook.{NameBook}
+use Rattle.teb_rules.specs.declared.names.naming.NameBook.{NameBook}
 use Rattle.teb_rules.specs.Setup.{Store}
 use Rattle.store_server.specs.Trees.{IsTreeOf, IsWellNamed}
 use Rattle.store_server.proofs.server.StoreServerEpochServer.serve.Goals as goal

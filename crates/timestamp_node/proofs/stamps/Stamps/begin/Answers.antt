@@ -1,5 +1,5 @@
 use Rattle.std.proofs.Common.{◌∙◌, drop, sym, refl, eq-eqb}
-use Rattle.teb_history.specs.declared.Event.TheVariants.{Began}
+use Rattle.teb_rules.specs.declared.history.Event.TheVariants.{Began}
 use Rattle.phase_api.specs.FactsView.{setup_of, events_of}
 use Rattle.access_conflicts.proofs.Noting.{typed_now}
 use Rattle.batch_book.proofs.Telling.{next_new}

@@ -1,5 +1,5 @@
 use Rattle.std.proofs.Common.{◌∙◌, sym, ap, subst, List}
-use Rattle.teb_history.specs.declared.Event.{Event}
+use Rattle.teb_rules.specs.declared.history.Event.{Event}
 use Rattle.teb_rules.specs.Setup.{NodeRow}
 use Rattle.phase_api.specs.FactsView.{setup_of, IsOrderly}
 use Rattle.access_conflicts.proofs.Orderly.{orderly_none}

@@ -1,6 +1,6 @@
 use Rattle.std.proofs.Common.{◌≡◌, ◌∙◌, List, Some, None, sym, subst, ltb-true}
-use Rattle.teb_names.specs.declared.Txn.{Txn}
-use Rattle.teb_history.specs.Phases.{begun_count}
+use Rattle.teb_rules.specs.declared.names.Txn.{Txn}
+use Rattle.teb_rules.specs.history.Phases.{begun_count}
 use Rattle.phase_api.specs.FactsView.{setup_of, events_of}
 use Rattle.timestamp_node.specs.Reads.{reads}
 use Rattle.timestamp_node.specs.Late.{is_after}

@@ -1,4 +1,4 @@
-use Rattle.teb_history.specs.Phases.{begun_count}
+use Rattle.teb_rules.specs.history.Phases.{begun_count}
 use Rattle.phase_api.specs.FactsView.{setup_of, events_of}
 use Rattle.timestamp_node.specs.Reads.{reads}
 use Rattle.timestamp_node.specs.Late.{is_after}

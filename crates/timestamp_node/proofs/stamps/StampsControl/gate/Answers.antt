@@ -1,5 +1,5 @@
 use Rattle.std.proofs.Common.{◌∙◌, List, None, find, sym, ap}
-use Rattle.teb_names.specs.declared.Txn.{Txn}
+use Rattle.teb_rules.specs.declared.names.Txn.{Txn}
 use Rattle.phase_api.specs.FactsView.{setup_of, events_of}
 use Rattle.access_conflicts.proofs.Blockers.{find_here, find_end}
 use Rattle.timestamp_node.proofs.Said.{holds_back, gate_open, gate_found}

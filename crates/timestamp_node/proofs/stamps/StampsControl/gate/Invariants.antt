@@ -1,5 +1,5 @@
 use Rattle.std.proofs.Common.{◌≡◌, drop, find}
-use Rattle.teb_names.specs.declared.Txn.{Txn}
+use Rattle.teb_rules.specs.declared.names.Txn.{Txn}
 use Rattle.phase_api.specs.FactsView.{setup_of, events_of}
 use Rattle.timestamp_node.proofs.Said.{holds_back}
 use Rattle.timestamp_node.proofs.stamps.StampsControl.gate.Given as goal

@@ -1,5 +1,5 @@
 use Rattle.std.proofs.Common.{refl, sym, ap, ◌∙◌, arith, length-set}
-use Rattle.teb_names.specs.Names.{number_of}
+use Rattle.teb_rules.specs.names.Names.{number_of}
 use Rattle.script_text.proofs.NameSteps.{none_numbered, numbered_more}
 use Rattle.script_text.proofs.script.names.NamesAtHand.new.Goals as goal
 

@@ -1,5 +1,0 @@
-use Rattle.std.proofs.Common.{length}
-use Rattle.cc_tree.proofs.shape.+shares.Given as goal
-
-abbrev pub decreases-shares : goal.decreases-shares
-decreases-shares l = length l.types.now

@@ -1,5 +1,0 @@
-use Rattle.std.proofs.Common.{length}
-use Rattle.cc_tree.proofs.shape.+some_clash.Given as goal
-
-abbrev pub decreases-some_clash : goal.decreases-some_clash
-decreases-some_clash l = length l.earlier.now

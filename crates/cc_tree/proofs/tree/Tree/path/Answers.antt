@@ -1,7 +1,0 @@
-use Rattle.std.proofs.Common.{rules, ap, ◌∙◌}
-use Rattle.cc_tree.specs.Grown.{node_numbers}
-use Rattle.cc_tree.proofs.Paths.{nodes_within}
-use Rattle.cc_tree.proofs.tree.Tree.path.Goals as goal
-
-pub returns-clause-within : goal.returns-clause-within
-returns-clause-within c = nodes_within c.args.self.now (search rules) c.args.s (search rules) c.nodes.result.now (ap node_numbers c.nodes.ensures ∙ c.stored.ensures.nodes)

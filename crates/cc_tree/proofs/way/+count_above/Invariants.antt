@@ -1,4 +1,0 @@
-use Rattle.cc_tree.proofs.way.+count_above.Given as goal
-
-abbrev pub decreases-count_above : goal.decreases-count_above
-decreases-count_above l = l.most

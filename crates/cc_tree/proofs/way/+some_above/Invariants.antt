@@ -1,4 +1,0 @@
-use Rattle.cc_tree.proofs.way.+some_above.Given as goal
-
-abbrev pub decreases-some_above : goal.decreases-some_above
-decreases-some_above l = l.most

@@ -1,7 +1,0 @@
-use Rattle.std.proofs.Common.{arith}
-use Rattle.cc_tree.specs.Grown.{rows_of}
-use Rattle.cc_tree.proofs.Climbing.{climbs}
-use Rattle.cc_tree.proofs.way.step_up.Goals as goal
-
-pub returns-else-most-eq0 : goal.returns-else-most-eq0
-returns-else-most-eq0 c = climbs (rows_of c.args.rows.now) c.args.most c.args.n.0 c.parent_of.result (omega arith) c.parent_of.ensures

@@ -1,9 +1,0 @@
--- The round of a ring.
-use Rattle.std.specs.Prelude.{List}
-use Rattle.teb_rules.specs.Driver.{Seat}
-use Rattle.fair_driver.specs.declared.ring.Ring.{Ring}
-use Rattle.fair_driver.specs.Seats.{round_from, seats_in}
-
--- the seats in the order in which they are looked at
-abbrev pub round_of : Ring → List Seat
-round_of r = round_from r.next (seats_in r.cursors.items)

@@ -1,0 +1,3 @@
+pub mod replay
+pub mod turns
+pub mod Runs

@@ -1,0 +1,2 @@
+pub mod threads
+pub mod pool

@@ -1,8 +1,0 @@
-use Rattle.std.proofs.Common.{◌≡◌}
-use Rattle.teb_history.specs.Accesses.{last_got}
-use Rattle.teb_history.specs.OwnEvents.{got_in}
-use Rattle.teb_history.proofs.OwnWalks.{newest_in}
-use Rattle.teb_history.proofs.history.History.last_got.Given as goal
-
-abbrev pub invariant-loop-event : goal.invariant-loop-event
-invariant-loop-event l = newest_in (got_in l.cell) l.event-iterator ≡ last_got l.fn.self.events l.fn.t.0 l.cell

@@ -1,6 +1,0 @@
-pub mod Ascending
-pub mod Bools
-pub mod CellOrder
-pub mod Padding
-pub mod SameCells
-mod Texts

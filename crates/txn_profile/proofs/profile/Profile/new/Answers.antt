@@ -1,7 +1,0 @@
-use Rattle.std.proofs.Common.{◌∙◌, sym}
-use Rattle.txn_profile.specs.Steps.{steps_of}
-use Rattle.txn_profile.proofs.Faultless.{profile_from}
-use Rattle.txn_profile.proofs.profile.Profile.new.Goals as goal
-
-pub invariant_of-result : goal.invariant_of-result
-invariant_of-result c = rw c.deref.ensures.value at (profile_from (steps_of c.deref.result.now) (sym c.steps_fault.ensures ∙ c.in-None.is))
