@@ -1,7 +1,13 @@
 //! A store with one journal as a server.
 
-ghost use Rattle.std.specs.Prelude.{◌≡◌};
+ghost use Rattle.std.specs.Prelude.{◌≡◌, true, IsErrOf};
+ghost use Rattle.teb_rules.specs.declared.names.Reply.{Reply as TheReply};
 ghost use Rattle.teb_rules.specs.declared.names.Reply.TheVariants as replies;
+ghost use Rattle.teb_rules.specs.Answer.{answer};
+ghost use Rattle.hall_server.specs.Told.{events_after, told, IsToldBy};
+ghost use Rattle.hall_server.specs.declared.failure.Failure.TheVariants as failures;
+ghost use Rattle.hall_server.specs.declared.failure.Fault.TheVariants as faults;
+ghost use Rattle.commit_journal.specs.Asking.{HasNoRoom};
 
 use commit_journal::{Durable, DurableError};
 use crash_disk::Disk;
@@ -27,12 +33,21 @@ impl<C: Chains, D: Disk> Server for DurableServer<C, D> {
 
     ghost unsure = { λ r. r ≡ replies.Committed };
 
-    fn serve(
-        &mut self,
-        alloc: Global,
-        session: Session,
-        request: Request,
-    ) -> Result<Reply, Failure> {
+    /// Answers a request.
+    ///
+    /// # Errors
+    /// `Unasked` leaves the store as it was: `Stopped` is returned if and only if the disk has failed before, and `Full` only if the disk
+    /// may not hold the commit. `Unsure` is returned if the disk fails at a commit.
+    fn serve(&mut self, alloc: Global, session: Session, request: Request) -> Result<Reply, Failure>
+        ensures reply { IsToldBy (told result) (answer self.old.durable.store self.old.durable.events session request).0 }
+        ensures events { self.new.durable.events ≡ events_after (told result) self.old.durable.events (answer self.old.durable.store self.old.durable.events session request).1 }
+        ensures store { self.new.durable.store ≡ self.old.durable.store }
+        ensures names { self.new.durable.names ≡ self.old.durable.names }
+        ensures unsure { (r : TheReply) → IsErrOf result (failures.Unsure r) → r ≡ replies.Committed }
+        ensures stopped { IsErrOf result (failures.Unasked faults.Stopped) → self.old.durable.stopped ≡ true }
+        ensures stays { self.old.durable.stopped ≡ true → IsErrOf result (failures.Unasked faults.Stopped) }
+        ensures full { IsErrOf result (failures.Unasked faults.Full) → HasNoRoom D.capacity self.old.durable session request }
+    {
         match self.durable.ask(alloc, session, request) {
             Ok(reply) => Ok(reply),
             Err(DurableError::Stopped) => Err(Failure::Unasked(Fault::Stopped)),

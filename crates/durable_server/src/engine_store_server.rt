@@ -1,7 +1,14 @@
 //! A store in epochs as a server.
 
-ghost use Rattle.std.specs.Prelude.{◌≡◌};
+ghost use Rattle.std.specs.Prelude.{◌≡◌, ◌-◌, true, IsErrOf};
+ghost use Rattle.teb_rules.specs.declared.names.Reply.{Reply as TheReply};
 ghost use Rattle.teb_rules.specs.declared.names.Reply.TheVariants as replies;
+ghost use Rattle.teb_rules.specs.Answer.{answer};
+ghost use Rattle.hall_server.specs.Told.{events_after, told, IsToldBy};
+ghost use Rattle.hall_server.specs.declared.failure.Failure.TheVariants as failures;
+ghost use Rattle.hall_server.specs.declared.failure.Fault.TheVariants as faults;
+ghost use Rattle.commit_journal.specs.Kept.{IsFull};
+ghost use Rattle.epoch_journal.specs.Layout.{half_size};
 
 use crash_disk::Disk;
 use engine_store::{AskError, EngineStore};
@@ -27,12 +34,22 @@ impl<C: Chains, D: Disk> Server for EngineStoreServer<C, D> {
 
     ghost unsure = { λ r. r ≡ replies.Committed };
 
-    fn serve(
-        &mut self,
-        alloc: Global,
-        session: Session,
-        request: Request,
-    ) -> Result<Reply, Failure> {
+    /// Answers a request.
+    ///
+    /// # Errors
+    /// `Unasked` leaves the store as it was: `Stopped` is returned if and only if the disk has failed before, and `Full` only if the half
+    /// that is current may not hold the commit. `Unsure` is returned if the disk fails at a commit.
+    fn serve(&mut self, alloc: Global, session: Session, request: Request) -> Result<Reply, Failure>
+        ensures reply { IsToldBy (told result) (answer self.old.store.engine.store self.old.store.engine.events session request).0 }
+        ensures events { self.new.store.engine.events ≡ events_after (told result) self.old.store.engine.events (answer self.old.store.engine.store self.old.store.engine.events session request).1 }
+        ensures store { self.new.store.engine.store ≡ self.old.store.engine.store }
+        ensures names { self.new.store.engine.names ≡ self.old.store.engine.names }
+        ensures unsure { (r : TheReply) → IsErrOf result (failures.Unsure r) → r ≡ replies.Committed }
+        ensures stopped { IsErrOf result (failures.Unasked faults.Stopped) → self.old.store.journal.stopped ≡ true }
+        ensures stays { self.old.store.journal.stopped ≡ true → IsErrOf result (failures.Unasked faults.Stopped) }
+        ensures full { IsErrOf result (failures.Unasked faults.Full)
+            → IsFull self.old.store.engine.events (half_size self.old.store.journal.layout.capacity - self.old.store.journal.end) session request }
+    {
         match self.store.ask(alloc, session, request) {
             Ok(reply) => Ok(reply),
             Err(AskError::Stopped) => Err(Failure::Unasked(Fault::Stopped)),
