@@ -12,3 +12,4 @@ pub mod Peeking
 pub mod Splitting
 pub mod Joining
 pub mod Closing
+pub mod Written

@@ -1,9 +1,9 @@
-use Rattle.std.proofs.Common.{sym, ◌∙◌}
+use Rattle.std.proofs.Common.{sym, ◌∙◌, ap}
 use Rattle.session_server.proofs.Numbers.{has_all}
-use Rattle.embedded_hall.proofs.Sessions.{numbers_written}
+use Rattle.turn_lock.proofs.Written.{map_written}
 use Rattle.embedded_hall.proofs.main.Goals as goal
 
 pub close-engine-requires-clause-all : goal.close-engine-requires-clause-all
 close-engine-requires-clause-all g c =
     let length = c.run_clients.auto.passes in
-    has_all _ (numbers_written _ _ _ _ c.deref_mut.ensures.value length (sym c.deref_mut.ensures.len ∙ sym length) (λ i d l. (c.run_clients.ensures i d l).1) ∙ c.in-Ok.ensures.sessions)
+    has_all _ (map_written _ _ _ _ _ c.deref_mut.ensures.value length (sym c.deref_mut.ensures.len ∙ sym length) (λ i d l. ap (λ s. s.0) (c.run_clients.ensures i d l).1) ∙ c.in-Ok.ensures.sessions)
