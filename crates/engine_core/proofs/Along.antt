@@ -19,10 +19,8 @@ use Rattle.store_setup.specs.tree.Grown.{node_numbers}
 use Rattle.phase_api.specs.declared.facts.Facts.{Facts}
 use Rattle.phase_api.specs.FactsView.{setup_of, events_of, IsTyped}
 use Rattle.phase_api.specs.Calls.{IsHere}
-use Rattle.version_chain.specs.Lists.{Version}
 use Rattle.candidate_reads.proofs.InOrder.{among_In}
-use Rattle.engine_core.specs.declared.questions.Question.{Question}
-use Rattle.engine_core.specs.Questions.{CanAsk, MayAsk}
+use Rattle.engine_core.specs.Questions.{CanAsk}
 use Rattle.std.proofs.lemmas.List.Elements.{All-from_get_or}
 
 among_at : (ns : List Node) (k : ℕ) (d : Node) → k < length ns → among (get_or ns k d).0 (node_numbers ns) ≡ true
@@ -48,12 +46,12 @@ pub within : (S : Setup) → IsSound S → (s : Spot) (ns : List Node) → node_
 within S sound s ns e = All-from_get_or (λ n. n.0 < length S.tree) ns (record { 0 = 0 }) (λ k h. node_at S sound s ns e k (record { 0 = 0 }) h)
 
 -- every node of a path may be asked
-pub asked_along : (f : Facts) (L : Cell → List Version) (q : Question) (s : Spot) (ns : List Node) → IsSound (setup_of f) → node_numbers ns ≡ path (setup_of f).tree s
-    → ((n : ℕ) → on_path (setup_of f).tree n s ≡ true → MayAsk L f q n)
-    → All (CanAsk L f q) ns
-asked_along f L q s ns sound e may =
+pub asked_along : (f : Facts) (may : ℕ → Type 0) (s : Spot) (ns : List Node) → IsSound (setup_of f) → node_numbers ns ≡ path (setup_of f).tree s
+    → ((n : ℕ) → on_path (setup_of f).tree n s ≡ true → may n)
+    → All (CanAsk may f) ns
+asked_along f may s ns sound e h =
     let d : Node = record { 0 = 0 } in
-    All-from_get_or (CanAsk L f q) ns d (λ k h. (node_at (setup_of f) sound s ns e k d h, may (get_or ns k d).0 (on_at (setup_of f) s ns k d e h)))
+    All-from_get_or (CanAsk may f) ns d (λ k l. (node_at (setup_of f) sound s ns e k d l, h (get_or ns k d).0 (on_at (setup_of f) s ns k d e l)))
 
 -- the first stop along the path is the stop of the rules
 pub access_along : (S : Setup) (H : List Event) (t : ℕ) (x : Cell) (write : Bool) (ns : List ℕ) (s : Stop) → ns ≡ path S.tree (spot_of H t)

@@ -9,7 +9,7 @@ ghost use Rattle.engine_core.specs.Stopping.{AreTold};
 use crate::access::Access;
 use crate::asking::Asking;
 use crate::engine_view::EngineView;
-use crate::questions::{Question, first_stop};
+use crate::questions::{BeginQuestion, PrepareQuestion, ReadQuestion, WriteQuestion, first_stop};
 use commit_gate::may_commit;
 use teb_rules::Stop;
 use teb_rules::names::Spot;
@@ -24,7 +24,10 @@ pub fn read_stop<C: Chains>(access: &Access<'_, C>) -> Stop
     first_stop(
         asking.view,
         asking.nodes,
-        Question::Read(asking.txn, access.cell),
+        ReadQuestion {
+            txn: asking.txn,
+            cell: access.cell,
+        },
     )
 }
 
@@ -38,7 +41,11 @@ pub fn write_stop<C: Chains>(access: &Access<'_, C>, at: Option<usize>) -> Stop
     first_stop(
         asking.view,
         asking.nodes,
-        Question::Write(asking.txn, access.cell, at),
+        WriteQuestion {
+            txn: asking.txn,
+            cell: access.cell,
+            at,
+        },
     )
 }
 
@@ -46,7 +53,11 @@ pub fn write_stop<C: Chains>(access: &Access<'_, C>, at: Option<usize>) -> Stop
 pub fn prepare_stop<C: Chains>(asking: &Asking<'_, C>) -> Stop
     ensures { result ≡ prepare_stop (store_in asking.now.view.now).setup (events_in asking.now.view.now) asking.now.txn.0 }
 {
-    first_stop(asking.view, asking.nodes, Question::Prepare(asking.txn))
+    first_stop(
+        asking.view,
+        asking.nodes,
+        PrepareQuestion { txn: asking.txn },
+    )
 }
 
 /// Returns the stop of a Commit.
@@ -67,5 +78,5 @@ pub fn begin_stop<C: Chains>(view: &EngineView<C>, spot: Spot) -> Stop
     requires kind { spot.kind.0 < (store_in view.now).setup.types }
     ensures { result ≡ begin_stop (store_in view.now).setup (events_in view.now) spot }
 {
-    first_stop(view, view.facts.tree.path(spot), Question::Begin(spot))
+    first_stop(view, view.facts.tree.path(spot), BeginQuestion { spot })
 }

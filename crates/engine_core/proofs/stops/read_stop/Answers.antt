@@ -1,7 +1,7 @@
 use Rattle.std.proofs.Common.{false}
 use Rattle.teb_rules.specs.history.Phases.{spot_of}
 use Rattle.commit_gate.proofs.CommitWaits.{typed_now}
-use Rattle.engine_core.specs.declared.questions.Question.TheVariants as question
+use Rattle.engine_core.specs.Questions.{MayAskToRead}
 use Rattle.engine_core.specs.Views.{store_in, events_in}
 use Rattle.engine_core.proofs.Along.{asked_along, here_on, access_along}
 use Rattle.engine_core.proofs.stops.read_stop.Goals as goal
@@ -14,7 +14,8 @@ first_stop-requires g c =
     let f = view.facts in
     let t = asking.txn.0 in
     let typed = typed_now f t view.whole.whole.lawful asking.runs in
-    asked_along f (g.C.Chains.lists view.state.now.chains) (question.Read asking.txn c.args.access.now.cell) (spot_of (events_in view) t) asking.nodes.now view.whole.whole.sound asking.way
+    let may = MayAskToRead (record { txn = asking.txn; cell = c.args.access.now.cell }) (g.C.Chains.lists view.state.now.chains) f in
+    asked_along f may (spot_of (events_in view) t) asking.nodes.now view.whole.whole.sound asking.way
     (λ n o. record { here = here_on f t n typed o; unfinished = asks.unfinished; unprepared = asks.unprepared; step = asks.step })
 
 pub returns : goal.returns
