@@ -81,6 +81,10 @@ impl<D: Renew> EpochServer for Recorded<D> {
         self.server.is_ending()
     }
 
+    fn holds(&self, session: Session) -> bool {
+        self.server.holds(session)
+    }
+
     fn obstacle(&self) -> Option<Obstacle> {
         self.server.obstacle()
     }

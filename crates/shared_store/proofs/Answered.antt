@@ -19,8 +19,8 @@ use Rattle.shared_store.specs.declared.session.TheConstants.{MOST_ASKS, MOST_TUR
 use Rattle.shared_store.specs.Known.{Knows}
 use Rattle.shared_store.specs.Stages.{Stage}
 use Rattle.shared_store.specs.Lives.{calls_of}
-use Rattle.shared_store.specs.Gaining.{Gains, SafeAt, SeesCall, SeesMarks, TakesTurns, is_commit_reply}
-use Rattle.shared_store.specs.Sharing.{GoesOn, IsAnswered, IsSafe, IsUnasked, seen}
+use Rattle.shared_store.specs.Gaining.{Gains, SafeAt, SeesCall, SeesFree, SeesMarks, TakesTurns, is_commit_reply}
+use Rattle.shared_store.specs.Sharing.{GoesOn, IsAnswered, IsSafe, IsUnasked, WasFree, seen}
 
 -- what a seat gains, by the result
 module _ (b : Stage) (s : Session) (q : Request) (v w : View LifeEntry Stage) where
@@ -71,6 +71,9 @@ module _ {V L B : Type 0} {g : Ghosts V L B} (b : Stage) (old new : StoreSession
     short_of = m.short_of;
     calls = ap (λ (s : Session). calls_of s.0 (seen new)) session ∙ m.calls;
   }
+
+pub was_free : {V L B : Type 0} {g : Ghosts V L B} (b : Stage) (old new : StoreSession V L B g) → SeesFree b old.session (view_of old.seat) (view_of new.seat) → WasFree b old new
+was_free b old new m = record { between = m.between; more = m.more; stage = m.stage; is = m.is; leads = m.leads; free = m.free }
 
 pub safe : {V L B : Type 0} {g : Ghosts V L B} (b : Stage) (p : StoreSession V L B g) → SafeAt b (view_of p.seat).seen (view_of p.log_seat).seen → IsSafe b p
 safe b p s = record { stage = s.stage; leads = s.leads; kept = s.kept }

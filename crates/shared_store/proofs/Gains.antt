@@ -12,11 +12,14 @@ use Rattle.shared_store.specs.declared.reply.StoreReply.TheVariants.{Reply, Late
 use Rattle.shared_store.specs.Stages.{Stage}
 use Rattle.shared_store.specs.Lives.{LeadsTo}
 use Rattle.shared_store.specs.declared.reply.StoreReply.{StoreReply}
-use Rattle.shared_store.specs.Gaining.{Sees, SeesCall, SeesMarks}
+use Rattle.shared_store.specs.Gaining.{Sees, SeesCall, SeesFree, SeesMarks}
 use Rattle.shared_store.specs.Turning.{IsPutOff}
 
 -- a seat sees marks, and then what an answer adds
 module _ (b : Stage) (s : Session) (u v w : View LifeEntry Stage) (m : SeesMarks s.0 u v) where
+  before : (between : List LifeEntry) → v.seen ++ between ≡ u.seen ++ (m.more ++ between)
+  before between = ap (λ (l : List LifeEntry). l ++ between) m.is ∙ append_assoc u.seen m.more between
+
   marks_on : SeesMarks s.0 v w → SeesMarks s.0 u w
   marks_on n = record { more = m.more ++ n.more; is = n.is ∙ (ap (λ (l : List LifeEntry). l ++ n.more) m.is ∙ append_assoc u.seen m.more n.more); calls = n.calls ∙ m.calls }
 
@@ -25,15 +28,22 @@ module _ (b : Stage) (s : Session) (u v w : View LifeEntry Stage) (m : SeesMarks
     between = m.more ++ n.between;
     short = n.short;
     stage = n.stage;
-    is = n.is ∙ ap (λ (l : List LifeEntry). l ++ Asked s s q n.short ∷ []) before;
-    leads = subst (λ (l : List LifeEntry). LeadsTo b l n.stage) before n.leads;
+    is = n.is ∙ ap (λ (l : List LifeEntry). l ++ Asked s s q n.short ∷ []) (before n.between);
+    leads = subst (λ (l : List LifeEntry). LeadsTo b l n.stage) (before n.between) n.leads;
     reply = n.reply;
     short_of = n.short_of;
     calls = n.calls ∙ ap (λ (l : List LifeEntry). l ++ Asked s s q n.short ∷ []) m.calls;
   }
-    where
-      before : v.seen ++ n.between ≡ u.seen ++ (m.more ++ n.between)
-      before = ap (λ (l : List LifeEntry). l ++ n.between) m.is ∙ append_assoc u.seen m.more n.between
+
+  pub free_on : SeesFree b s v w → SeesFree b s u w
+  free_on n = record {
+    between = m.more ++ n.between;
+    more = n.more;
+    stage = n.stage;
+    is = n.is ∙ ap (λ (l : List LifeEntry). l ++ n.more) (before n.between);
+    leads = subst (λ (l : List LifeEntry). LeadsTo b l n.stage) (before n.between) n.leads;
+    free = n.free;
+  }
 
   pub sees_on : (q : Request) (r : Answer) → Sees b s q r v w → Sees b s q r u w
   sees_on q (answer.Reply (Reply r) n) a = call_on q r a
@@ -45,6 +55,9 @@ module _ (b : Stage) (s : Session) (u v w : View LifeEntry Stage) (m : SeesMarks
 -- what is seen by equal sessions from equal views
 pub sees_from : (b : Stage) (r s : Session) (q : Request) (a : Answer) (u v w : View LifeEntry Stage) → r ≡ s → u ≡ v → Sees b r q a u w → Sees b s q a v w
 sees_from b r s q a u v w e f h = subst (λ (p : Session × View LifeEntry Stage). Sees b p.0 q a p.1 w) (λ i. (e i, f i)) h
+
+pub free_from : (b : Stage) (r s : Session) (u v w : View LifeEntry Stage) → r ≡ s → u ≡ v → SeesFree b r u w → SeesFree b s v w
+free_from b r s u v w e f h = subst (λ (p : Session × View LifeEntry Stage). SeesFree b p.0 p.1 w) (λ i. (e i, f i)) h
 
 -- what is seen, by the variant of the answer
 module _ (b : Stage) (s : Session) (q : Request) (v w : View LifeEntry Stage) (o : Answer) (h : Sees b s q o v w) where

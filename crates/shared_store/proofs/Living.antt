@@ -58,7 +58,7 @@ module _ (first : Stage) (x y : Standing) (past : ℕ) (stopped : Bool) (commits
   now = stage_of past stopped x
 
   -- a life extended by a request
-  pub life_asked : (by s : Session) (q : Request) (r : Reply) (short : Option ShortReply) (new : List LifeEntry) (count : ℕ) → stopped ≡ false → HasRoomFor x.events q → IsAnsweredBy x y s q r
+  pub life_asked : (by s : Session) (q : Request) (r : Reply) (short : Option ShortReply) (new : List LifeEntry) (count : ℕ) → stopped ≡ false → HasRoomFor x.events s q → IsAnsweredBy x y s q r
       → IsShortOf r short
       → count ≡ commits + commits_in r → new ≡ es ++ Asked by s q short ∷ [] → IsLifeOf first (stage_of past stopped y) count new
   life_asked by s q r short new count runs room a h c is = record {
@@ -161,7 +161,7 @@ module _ (w v : List Event → Type 0) (goes_on : (H : List Event) → w H → v
 -- a life extended by a result of the server
 module _ (first : Stage) (x y : Standing) (past : ℕ) (stopped : Bool) (commits : ℕ) (es : List LifeEntry) (l : IsLifeOf first (stage_of past stopped x) commits es) (s : Session) (q : Request)
     (o : Result Reply Fault) (a : IsServed x y s q o) where
-  pub served_life : (by : Session) (r : Reply) (short : Option ShortReply) (new : List LifeEntry) (count : ℕ) → stopped ≡ false → HasRoomFor x.events q → o ≡ Ok r → IsShortOf r short
+  pub served_life : (by : Session) (r : Reply) (short : Option ShortReply) (new : List LifeEntry) (count : ℕ) → stopped ≡ false → HasRoomFor x.events s q → o ≡ Ok r → IsShortOf r short
       → count ≡ commits + commits_in r
       → new ≡ es ++ Asked by s q short ∷ [] → IsLifeOf first (stage_of past stopped y) count new
   served_life by r short new count runs room e h c is = life_asked first x y past stopped commits es l by s q r short new count runs room (subst (IsServed x y s q) e a) h c is

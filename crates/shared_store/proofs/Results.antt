@@ -1,6 +1,6 @@
 -- What holds of a result, by its variant.
 use Rattle.std.proofs.Common.{◌≡◌, Result, Ok, Err, subst}
-use Rattle.std.specs.Prelude.{OnOk, OnErr}
+use Rattle.std.specs.Prelude.{IfOk, OnOk, OnErr}
 
 module _ {A B : Type 0} (P : Type 0) (o : Result A B) where
   pub on_ok : (a : A) → o ≡ Ok a → OnOk o P → P
@@ -8,3 +8,6 @@ module _ {A B : Type 0} (P : Type 0) (o : Result A B) where
 
   pub on_err : (b : B) → o ≡ Err b → OnErr o P → P
   on_err b e h = subst (λ (p : Result A B). OnErr p P) e h
+
+pub if_ok : {A B : Type 0} (P : A → Type 0) (o : Result A B) (a : A) → o ≡ Ok a → IfOk o P → P a
+if_ok {A} {B} P o a e h = subst (λ (p : Result A B). IfOk p P) e h

@@ -1,5 +1,5 @@
 -- One turn at the front: what was taken, what is put back, and what the seat knows then.
-use Rattle.std.proofs.Common.{◌≡◌, ℕ, ◌+◌, Bool, List, [], ◌∷◌, ◌++◌, Some, All, append-nil, append_assoc, refl, sym, ◌∙◌, ap, subst, arith}
+use Rattle.std.proofs.Common.{◌≡◌, ℕ, ◌+◌, Bool, false, List, [], ◌∷◌, ◌++◌, Some, All, append-nil, append_assoc, refl, sym, ◌∙◌, ap, subst, arith}
 use mathlib.Core.Logic.{∥∥₁_map}
 use Rattle.teb_rules.specs.declared.names.Reply.{Reply as TheReply}
 use Rattle.teb_rules.specs.declared.names.Request.{Request}
@@ -20,6 +20,7 @@ use Rattle.shared_store.specs.declared.answer.Answer.TheVariants as answer
 use Rattle.shared_store.specs.declared.reply.StoreReply.TheVariants.{Reply, Later, Ended}
 use Rattle.shared_store.specs.declared.server.EpochServer.{Ghosts}
 use Rattle.shared_store.specs.declared.hosted.Hosted.{Hosted}
+use Rattle.shared_store.specs.Beginning.{holds}
 use Rattle.shared_store.specs.Stages.{Stage, first_stage}
 use Rattle.shared_store.specs.Holding.{IsBrought, IsKept, stage_of}
 use Rattle.shared_store.specs.Seated.{IsKeptAt}
@@ -27,7 +28,7 @@ use Rattle.shared_store.specs.Lives.{IsLegalLife, LeadsTo, Runs, calls_of, owner
 use Rattle.shared_store.specs.Hosting.{entries_in, note_in, first_of}
 use Rattle.shared_store.specs.Turning.{AddsCall, AddsMarks, GrowsBy, IsNumbered}
 use Rattle.shared_store.specs.Turning as turning
-use Rattle.shared_store.specs.Gaining.{IsCountedIn, LogTurn, Sees, SeesCall, SeesMarks, TakesBatch, TakesNone, TakesTurns}
+use Rattle.shared_store.specs.Gaining.{IsCountedIn, LogTurn, Sees, SeesCall, SeesFree, SeesMarks, TakesBatch, TakesNone, TakesTurns}
 use Rattle.shared_store.proofs.Calls.{calls_append, marks_none, one_call, others_none}
 use Rattle.shared_store.proofs.Courses.{others_take_none, taken_behind}
 use Rattle.shared_store.proofs.Living.{is_legal}
@@ -160,6 +161,18 @@ module _ {V L B : Type 0} {g : Ghosts V L B} (s : Session) (v0 v1 : View LifeEnt
       sees s v0 w t.owner t.follows.goes.more t.follows.goes.others b q r
       (found s.0 v0 v1 x0 x1 w t e (λ (l m : List LifeEntry). turning.Adds b s q r l m)
       (subst (λ (y : Stage). turning.Adds y s q r (entries_in x0) (entries_in x1)) (first_is s.0 v0 v1 x0 x1 w t e b h) a))
+
+  -- it held no transaction in what was taken
+  pub sees_free : (b : Stage) → v0.base ≡ Some b → holds (g.standing x0.server).events s ≡ false → SeesFree b s v0 w
+  sees_free b h n = record {
+    between = t.follows.goes.more;
+    more = t.grows.more;
+    stage = stage_of x0.past x0.stopped (g.standing x0.server);
+    is = seen s.0 v0 v1 x0 x1 w t e ∙ (t.grows.is ∙ ap (λ (l : List LifeEntry). l ++ t.grows.more) t.follows.goes.is);
+    leads = subst (λ (y : Stage × List LifeEntry). LeadsTo y.0 y.1 (stage_of x0.past x0.stopped (g.standing x0.server))) (λ i. (first_is s.0 v0 v1 x0 x1 w t e b h i, t.follows.goes.is i))
+        x0.life.leads;
+    free = n;
+  }
 
   pub sees_none : AddsMarks s.0 (entries_in x0) (entries_in x1) → SeesMarks s.0 v0 w
   sees_none a = sees_marks s v0 w t.owner t.follows.goes.more t.follows.goes.others (found s.0 v0 v1 x0 x1 w t e (λ (l m : List LifeEntry). AddsMarks s.0 l m) a)

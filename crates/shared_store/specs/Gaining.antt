@@ -15,6 +15,7 @@ use Rattle.shared_store.specs.declared.answer.Answer.TheVariants as answer
 use Rattle.shared_store.specs.declared.kept.Kept.{Kept}
 use Rattle.shared_store.specs.declared.reply.StoreReply.{StoreReply}
 use Rattle.shared_store.specs.declared.reply.StoreReply.TheVariants.{Reply, Later, Ended}
+use Rattle.shared_store.specs.Beginning.{holds}
 use Rattle.shared_store.specs.Stages.{Stage, commits_at, reply_at}
 use Rattle.shared_store.specs.Holding.{IsBrought}
 use Rattle.shared_store.specs.Lives.{IsLegalLife, IsShortOf, LeadsTo, calls_of, taken_of}
@@ -35,6 +36,15 @@ pub record SeesMarks (s : ℕ) (v w : View LifeEntry Stage) : Type 0 where
   pub more : List LifeEntry
   pub is : w.seen ≡ v.seen ++ more
   pub calls : calls_of s w.seen ≡ calls_of s v.seen
+
+-- at a place of what was seen since, session s holds no transaction
+pub record SeesFree (b : Stage) (s : Session) (v w : View LifeEntry Stage) : Type 0 where
+  pub between : List LifeEntry
+  pub more : List LifeEntry
+  pub stage : Stage
+  pub is : w.seen ≡ (v.seen ++ between) ++ more
+  pub leads : LeadsTo b (v.seen ++ between) stage
+  pub free : holds stage.standing.events s ≡ false
 
 -- what was seen goes on, with one call of session s, which is its end
 pub record SeesCall (b : Stage) (s : Session) (q : Request) (r : TheReply) (v w : View LifeEntry Stage) : Type 0 where

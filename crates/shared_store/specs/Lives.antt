@@ -24,11 +24,11 @@ abbrev pub IsShortOf : Reply → Option ShortReply → Type 0
 IsShortOf reply (Some short) = full_reply short ≡ reply
 IsShortOf reply None = HasValues reply
 
--- a request of session s; the reply is that of the rules. Once the log has failed, nothing is asked, and a Begin is asked only if fewer than
--- MOST_TXNS transactions have begun in the epoch
+-- a request of session s; the reply is that of the rules. Once the log has failed, nothing is asked, and a Begin of a session that holds no
+-- transaction is asked only if fewer than MOST_TXNS transactions have begun in the epoch
 pub record IsAsked (g : Stage) (s : Session) (q : Request) (short : Option ShortReply) (h : Stage) : Type 0 where
   pub runs : g.stopped ≡ false
-  pub room : HasRoomFor g.standing.events q
+  pub room : HasRoomFor g.standing.events s q
   pub reply : IsShortOf (reply_at g s q) short
   pub next : h ≡ asked_at g s q
 

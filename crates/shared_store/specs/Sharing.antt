@@ -1,5 +1,5 @@
 -- What contracts see of a shared store and its sessions, and what a call adds.
-use Rattle.std.specs.Prelude.{◌≡◌, ℕ, ◌+◌, ◌≤◌, List, [], ◌∷◌, ◌++◌, Option, Some}
+use Rattle.std.specs.Prelude.{◌≡◌, ℕ, ◌+◌, ◌≤◌, List, [], ◌∷◌, ◌++◌, false, Option, Some}
 use Rattle.teb_rules.specs.declared.names.Reply.{Reply}
 use Rattle.teb_rules.specs.declared.names.Request.{Request}
 use Rattle.short_reply.specs.declared.ShortReply.{ShortReply}
@@ -13,6 +13,7 @@ use Rattle.shared_store.specs.declared.hosted.Hosted.{Hosted}
 use Rattle.shared_store.specs.declared.keeper.Keeper.{Keeper}
 use Rattle.shared_store.specs.declared.store.Store.{Store}
 use Rattle.shared_store.specs.declared.session.StoreSession.{StoreSession}
+use Rattle.shared_store.specs.Beginning.{holds}
 use Rattle.shared_store.specs.Hosting.{first_of}
 use Rattle.shared_store.specs.Keeping.{place_of}
 use Rattle.shared_store.specs.Lives.{IsLegalLife, IsShortOf, LeadsTo, calls_of}
@@ -79,6 +80,15 @@ module _ {V L B : Type 0} {g : Ghosts V L B} where
   pub record IsUnasked (b : Stage) (old new : StoreSession V L B g) : Type 0 where
     pub goes_on : GoesOn b old new
     pub calls : own_calls new ≡ own_calls old
+
+  -- at a place of the life after all that it had seen, and among what it has seen now, it holds no transaction
+  pub record WasFree (b : Stage) (old new : StoreSession V L B g) : Type 0 where
+    pub between : List LifeEntry
+    pub more : List LifeEntry
+    pub stage : Stage
+    pub is : seen new ≡ (seen old ++ between) ++ more
+    pub leads : LeadsTo b (seen old ++ between) stage
+    pub free : holds stage.standing.events old.session ≡ false
 
   -- the commits of the life that it has seen, which ends with its call, are no more than those that the log has told that it keeps
   pub record IsSafe (b : Stage) (p : StoreSession V L B g) : Type 0 where

@@ -7,7 +7,7 @@ ghost use Rattle.shared_store.specs.declared.error.Fault.{Fault as TheFault};
 ghost use Rattle.shared_store.specs.declared.error.StoreError.TheVariants as errors;
 ghost use Rattle.shared_store.specs.declared.reply.StoreReply.TheVariants as store_replies;
 ghost use Rattle.shared_store.specs.Beginning.{IsBegin};
-ghost use Rattle.shared_store.specs.Sharing.{base_of, IsAnswered, IsSafe, IsSessionOf, IsUnasked, told};
+ghost use Rattle.shared_store.specs.Sharing.{base_of, IsAnswered, IsSafe, IsSessionOf, IsUnasked, WasFree, told};
 
 use crate::error::{Failure, StoreError};
 use crate::reply::StoreReply;
@@ -22,8 +22,10 @@ impl<S: EpochServer> StoreSession<S> {
     /// Asks the store, at the turn of this session, for which it waits. A commit is answered once the log keeps it; commits of sessions that
     /// wait together share its syncs.
     ///
-    /// If the epoch is to end, a Begin is answered `Later`, and nothing else is. Once all transactions have finished, a Begin ends the epoch
-    /// first, and is asked in the next one. So it is asked only if fewer than 8,192 transactions have begun in its epoch.
+    /// If the epoch is to end, a Begin of a session that holds no transaction is answered `Later`, and nothing else is. Once all transactions
+    /// have finished, it ends the epoch first, and is asked in the next one. So it is asked only if fewer than 8,192 transactions have begun
+    /// in its epoch. A Begin of a session that holds one is asked in any epoch. By the rules it begins none: it is refused, or tells of an
+    /// abort.
     ///
     /// What the session has seen goes on by this call, and of the commits that the log has told that it keeps there are no fewer.
     ///
@@ -44,7 +46,7 @@ impl<S: EpochServer> StoreSession<S> {
         ensures kept { IfOk result (λ a. a ≡ store_replies.Reply replies.Committed → IsSafe (base_of store.now) self.new) }
         ensures still { told self.old ≤ told self.new }
         ensures put_off { IfOk result (λ a. ((r : TheReply) → a ≢ store_replies.Reply r) → IsUnasked (base_of store.now) self.old self.new) }
-        ensures later { IfOk result (λ a. a ≡ store_replies.Later → IsBegin request) }
+        ensures later { IfOk result (λ a. a ≡ store_replies.Later → IsBegin request × WasFree (base_of store.now) self.old self.new) }
         ensures unsure { IsErrOf result errors.Unsure → IsAnswered (base_of store.now) self.old self.new request replies.Committed }
         ensures unasked { (f : TheFault) → IsErrOf result (errors.Unasked f) → IsUnasked (base_of store.now) self.old self.new }
         ensures spent { IsErrOf result errors.Spent → self.new ≡ self.old }

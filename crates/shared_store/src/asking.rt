@@ -4,7 +4,7 @@ ghost use Rattle.std.specs.Prelude.{◌≡◌, ◌≤◌, true, IfOk, IsTrue};
 ghost use Rattle.turn_lock.specs.Seats.{view_of};
 ghost use Rattle.shared_store.specs.declared.reply.StoreReply.TheVariants as store_replies;
 ghost use Rattle.shared_store.specs.Beginning.{IsBegin};
-ghost use Rattle.shared_store.specs.Gaining.{Gains, IsCountedIn, SafeAt, Sees, TakesLogTurns, TakesTurns, is_commit_reply};
+ghost use Rattle.shared_store.specs.Gaining.{Gains, IsCountedIn, SafeAt, Sees, SeesFree, TakesLogTurns, TakesTurns, is_commit_reply};
 ghost use Rattle.shared_store.specs.Sharing.{base_of, IsSessionOf};
 ghost use Rattle.shared_store.specs.Sparing.{HasTurns};
 ghost use Rattle.shared_store.specs.Totals.{total_in};
@@ -40,7 +40,7 @@ impl<S: EpochServer> StoreSession<S> {
         ensures turn { TakesTurns 2 (view_of self.old.seat) (view_of self.new.seat) }
         ensures log_turn { TakesLogTurns 2 (view_of self.old.log_seat) (view_of self.new.log_seat) }
         ensures gains { Gains (base_of store.now) self.old.session request result (view_of self.old.seat) (view_of self.new.seat) }
-        ensures later { IfOk result (λ a. a ≡ store_replies.Later → IsBegin request) }
+        ensures later { IfOk result (λ a. a ≡ store_replies.Later → IsBegin request × SeesFree (base_of store.now) self.old.session (view_of self.old.seat) (view_of self.new.seat)) }
         ensures safe { IfOk result (λ a. IsTrue (is_commit_reply a) → SafeAt (base_of store.now) (view_of self.new.seat).seen (view_of self.new.log_seat).seen) }
     {
         match self.ask_twice(store, rt, alloc, request) {
@@ -74,7 +74,7 @@ impl<S: EpochServer> StoreSession<S> {
         ensures log_turn { TakesLogTurns 1 (view_of self.old.log_seat) (view_of self.new.log_seat) }
         ensures sees { Sees (base_of store.now) self.old.session request result (view_of self.old.seat) (view_of self.new.seat) }
         ensures counted { IsCountedIn (base_of store.now) result (view_of self.new.seat).seen }
-        ensures put_off { IsPutOff result → IsBegin request }
+        ensures put_off { IsPutOff result → IsBegin request × SeesFree (base_of store.now) self.old.session (view_of self.old.seat) (view_of self.new.seat) }
     {
         let first = self.ask_once(store, rt, alloc, request);
         let Answer::Ending = first else {
@@ -101,7 +101,7 @@ impl<S: EpochServer> StoreSession<S> {
         ensures turn { TakesTurns 1 (view_of self.old.seat) (view_of self.new.seat) }
         ensures sees { Sees (base_of store.now) self.old.session request result (view_of self.old.seat) (view_of self.new.seat) }
         ensures counted { IsCountedIn (base_of store.now) result (view_of self.new.seat).seen }
-        ensures put_off { IsPutOff result → IsBegin request }
+        ensures put_off { IsPutOff result → IsBegin request × SeesFree (base_of store.now) self.old.session (view_of self.old.seat) (view_of self.new.seat) }
     {
         let inside = store.door.lock(rt);
         let mut hosted = store.turn.enter(rt, &mut self.seat);

@@ -4,7 +4,7 @@ ghost use Rattle.std.specs.Prelude.{◌≡◌, ◌≢◌, ◌≤◌, [], ◌∷�
 ghost use Rattle.teb_rules.specs.declared.names.TheConstants.{SESSIONS};
 ghost use Rattle.shared_store.specs.declared.entry.LifeEntry.TheVariants as entries;
 ghost use Rattle.shared_store.specs.declared.entry.TheConstants.{LOG_SEAT};
-ghost use Rattle.shared_store.specs.Beginning.{HasRoomFor, IsBegin};
+ghost use Rattle.shared_store.specs.Beginning.{HasRoomFor, IsBegin, holds};
 ghost use Rattle.shared_store.specs.Commits.{commits_in};
 ghost use Rattle.shared_store.specs.Ending.{AddsNoCalls, IsKeptAfter, LeadsToServer};
 ghost use Rattle.shared_store.specs.Holding.{IsBrought, IsKept, IsLifeOf, IsWaiting, stage_of};
@@ -94,14 +94,14 @@ impl<S: EpochServer> Hosted<S> {
         server
     }
 
-    /// Answers a request of a session at its turn. Once the log has failed, nothing is answered. In an epoch that is to end, a Begin is put
-    /// off.
+    /// Answers a request of a session at its turn. Once the log has failed, nothing is answered. In an epoch that is to end, a Begin of a
+    /// session that holds no transaction is put off, so no transaction begins. That of another session is asked, and begins none either.
     pub(crate) fn ask(&mut self, alloc: Global, session: Session, request: Request) -> Answer
         ensures adds { Adds (first_stage (S.standing self.old.first.value)) session request result self.old.entries.items self.new.entries.items }
         ensures number { IsNumbered self.new.commits result }
         ensures first { self.new.first ≡ self.old.first }
-        ensures open { IsBegin request → IsOfRules result → S.ending self.old.server ≡ false }
-        ensures put_off { IsPutOff result → IsBegin request × (S.ending self.old.server ≡ true) }
+        ensures open { IsBegin request → IsOfRules result → S.ending self.old.server ≡ true → holds (S.standing self.old.server).events session ≡ true }
+        ensures put_off { IsPutOff result → IsBegin request × (S.ending self.old.server ≡ true) × (holds (S.standing self.old.server).events session ≡ false) }
     {
         if self.stopped {
             return Answer::Unasked(Fault::Stopped);
@@ -109,7 +109,7 @@ impl<S: EpochServer> Hosted<S> {
         if let Some(reply) = self.take_notice(session) {
             return Answer::Reply(StoreReply::Ended(reply), self.commits);
         }
-        if self.is_late(request) {
+        if self.is_late(session, request) {
             return match self.drain(alloc, session) {
                 Ok(true) => Answer::Ending,
                 Ok(false) => Answer::Reply(StoreReply::Later, self.commits),
@@ -122,14 +122,14 @@ impl<S: EpochServer> Hosted<S> {
         }
     }
 
-    /// True if it is a Begin, and the epoch is to end.
-    fn is_late(&self, request: Request) -> bool
-        ensures late { result ≡ true → IsBegin request × (S.ending self.now.server ≡ true) }
-        ensures open { result ≡ false → IsBegin request → S.ending self.now.server ≡ false }
-        ensures room { result ≡ false → HasRoomFor (S.standing self.now.server).events request }
+    /// True if the epoch is to end, and the session holds no transaction and asks to begin one.
+    fn is_late(&self, session: Session, request: Request) -> bool
+        ensures late { result ≡ true → IsBegin request × (S.ending self.now.server ≡ true) × (holds (S.standing self.now.server).events session ≡ false) }
+        ensures open { result ≡ false → IsBegin request → S.ending self.now.server ≡ true → holds (S.standing self.now.server).events session ≡ true }
+        ensures room { result ≡ false → HasRoomFor (S.standing self.now.server).events session request }
     {
         match request {
-            Request::Begin(_) => self.server.is_ending(),
+            Request::Begin(_) => self.server.is_ending() && !self.server.holds(session),
             _ => false,
         }
     }
@@ -185,7 +185,7 @@ impl<S: EpochServer> Hosted<S> {
         session: Session,
         request: Request,
     ) -> Result<Reply, Fault>
-        requires room { HasRoomFor (S.standing self.old.server).events request }
+        requires room { HasRoomFor (S.standing self.old.server).events session request }
         ensures adds { AddsResult (first_stage (S.standing self.old.first.value)) by session request result self.old.entries.items self.new.entries.items }
         ensures first { self.new.first ≡ self.old.first }
     {

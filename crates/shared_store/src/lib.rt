@@ -27,15 +27,16 @@
 //! 4. If the log fails, the front is told, each session whose commit it does not keep is answered [`StoreError::Unsure`], and nothing is asked
 //!    from then on.
 //!
-//! When the epoch comes to its end, a Begin is answered [`StoreReply::Later`], and each other request is asked as before. Once all
-//! transactions have finished, the next session that asks to begin one ends the epoch at the log turn: it writes what waits, and begins the
-//! next epoch. Then it asks again.
+//! When the epoch comes to its end, a Begin of a session that holds no transaction is answered [`StoreReply::Later`], and each other request
+//! is asked as before. Once all transactions have finished, the next session that asks to begin one ends the epoch at the log turn: it
+//! writes what waits, and begins the next epoch. Then it asks again.
 //!
 //! **What is proved.** All that is asked, each time that the log took what waited, and each end of an epoch, are in one list, the life of the
 //! store. It exists in proofs alone ([`Trace`]). The answered calls of each session are in it once, in the order in which it made them, each
 //! with the reply of the rules at its place. An epoch ends only if no transaction is unfinished and each session was told of its abort, and
-//! the next one begins with the rows that it left. In an epoch that is to end no transaction begins (`Hosted::ask`, clause `open`), so a Begin
-//! is asked only if fewer than 8,192 have begun in its epoch; only a Begin is answered `Later`. A session is answered Committed only if the
+//! the next one begins with the rows that it left. In an epoch that is to end a Begin is asked only if its session holds a live transaction
+//! (`Hosted::ask`, clause `open`), and then it begins none, by the rules. So a Begin of any other session is asked only if fewer than 8,192 have begun in
+//! its epoch. Only a Begin of a session that holds no transaction is answered `Later`. A session is answered Committed only if the
 //! log has told it that it keeps at least as many commits as the life has up to this one, and the log keeps as many as it tells (`IsKept`): a
 //! crash leaves them. Nothing is asked after the log has failed. [`Store::close`] returns a server to which the life leads, and a log that
 //! keeps all of it, unless it has failed.

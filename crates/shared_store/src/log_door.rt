@@ -79,14 +79,14 @@ impl Waiting {
     }
 
     /// Notes the commit for which a session is at the door.
-    fn come(&mut self, session: Session, commit: u64) {
+    fn arrive(&mut self, session: Session, commit: u64) {
         if let Some(place) = self.places.get_mut(usize::from(session.0)) {
             place.commit = commit;
         }
     }
 
     /// Notes that a session goes out, which the last write has served.
-    fn go(&mut self, session: Session) {
+    fn depart(&mut self, session: Session) {
         let served = self.writes;
         if let Some(place) = self.places.get_mut(usize::from(session.0)) {
             *place = Place { commit: 0, served };
@@ -118,10 +118,10 @@ impl LogDoor {
         let mut waiting = self.waiting.lock(rt);
         for _ in rt.forever() {
             if !waiting.is_writing && waiting.is_settled(number) {
-                waiting.go(session);
+                waiting.depart(session);
                 return Pass::Look(waiting);
             }
-            waiting.come(session, number);
+            waiting.arrive(session, number);
             if !waiting.is_writing && !waiting.is_any_leaving() {
                 waiting.is_writing = true;
                 return Pass::Write(session);
@@ -179,7 +179,7 @@ impl LogDoor {
                 waiting.writes = waiting.writes.wrapping_add(1);
                 waiting.kept = kept;
                 waiting.failed = failed;
-                waiting.go(session);
+                waiting.depart(session);
                 self.changed.notify_all();
             }
         }

@@ -7,6 +7,7 @@ ghost use Rattle.teb_rules.specs.history.Phases.{begun_count};
 ghost use Rattle.teb_rules.specs.Setup.{Store};
 ghost use Rattle.commit_laws.specs.Commits.{commit_count};
 ghost use Rattle.shared_store.specs.declared.error.Fault.TheVariants as faults;
+ghost use Rattle.shared_store.specs.Beginning.{holds};
 ghost use Rattle.shared_store.specs.Served.{IsBegun, IsDrained, IsServed, Standing};
 
 use crate::error::Fault;
@@ -62,6 +63,10 @@ pub trait EpochServer: Sized {
     fn is_ending(&self) -> bool
         ensures ending { result ≡ ending self.now }
         ensures room { result ≡ false → begun_count (standing self.now).events < MOST_TXNS };
+
+    /// True if the session holds a live transaction: one that is unfinished, or that was aborted and of which the session was not told.
+    fn holds(&self, session: Session) -> bool
+        ensures { result ≡ holds (standing self.now).events session };
 
     /// What keeps the epoch from its end: a transaction is unfinished, or a session holds one that was aborted and was not told of it.
     fn obstacle(&self) -> Option<Obstacle>

@@ -8,6 +8,7 @@
 //! |---|---|
 //! | `serve` | as `EngineQueue::ask` does: a commit waits, and the disk is not touched |
 //! | `is_ending` | true once 8,192 transactions have begun, or a commit did not fit, or less than an eighth is left of the bytes that the epoch had at its beginning |
+//! | `holds` | whether the history has a live transaction of the session |
 //! | `obstacle` | whether a transaction is unfinished; else the least session that was not told of an abort |
 //! | `take` | all commits that wait |
 //! | `write` | as `write_commits` does: four calls of the disk, two of them syncs, however many commits there are, and none if there is none |

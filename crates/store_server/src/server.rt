@@ -114,6 +114,10 @@ impl<D: Renew> EpochServer for StoreServer<D> {
             || MOST_TXNS <= self.queue.engine().history().begun()
     }
 
+    fn holds(&self, session: Session) -> bool {
+        self.queue.engine().history().held(session).is_some()
+    }
+
     fn obstacle(&self) -> Option<Obstacle> {
         if self.queue.is_drained() {
             return None;

@@ -4,7 +4,8 @@ use Rattle.turn_lock.specs.Seats.{view_of}
 use Rattle.shared_store.specs.declared.error.Failure.{Failure}
 use Rattle.shared_store.specs.Gaining.{SafeAt}
 use Rattle.shared_store.specs.Sharing.{base_of}
-use Rattle.shared_store.proofs.Answered.{answered, gains_call, gains_put_off, gains_unasked, gains_unsure, safe, safe_commit, unasked}
+use Rattle.shared_store.proofs.Answered.{answered, gains_call, gains_put_off, gains_unasked, gains_unsure, safe, safe_commit, unasked, was_free}
+use Rattle.shared_store.proofs.Results.{if_ok}
 use Rattle.shared_store.proofs.session.StoreSession.ask.Goals as goal
 
 pub returns-in-Ok-clause-answered : goal.returns-in-Ok-clause-answered
@@ -29,6 +30,13 @@ returns-in-Ok-clause-put_off g c =
     let t = c.ask_through-answer.ensures in
     λ n. unasked b old c.ask_through-answer.new.self t.same.1 t.same.0 c.requires.session.1 2 t.turn
     (gains_put_off b old.session c.args.request (view_of old.seat) (view_of c.ask_through-answer.new.self.seat) c.ask_through-answer.result c.in-Ok.reply c.in-Ok.is n t.gains)
+
+pub returns-in-Ok-clause-later : goal.returns-in-Ok-clause-later
+returns-in-Ok-clause-later g c =
+    let old = c.args.self.now in
+    let b = base_of c.args.store.now in
+    let new = c.ask_through-answer.new.self in
+    λ e. let late = if_ok _ c.ask_through-answer.result c.in-Ok.reply c.in-Ok.is c.ask_through-answer.ensures.later e in (late.0, was_free b old new late.1)
 
 pub returns-in-Unsure-clause-unsure : goal.returns-in-Unsure-clause-unsure
 returns-in-Unsure-clause-unsure g c =

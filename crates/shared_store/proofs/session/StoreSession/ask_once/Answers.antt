@@ -5,7 +5,7 @@ use Rattle.shared_store.specs.Hosting.{first_of}
 use Rattle.shared_store.specs.Stages.{first_stage}
 use Rattle.shared_store.proofs.Adding.{adds_grow}
 use Rattle.shared_store.proofs.Answered.{knows_on}
-use Rattle.shared_store.proofs.Turning.{Took, adds, counts, sees_answer, takes}
+use Rattle.shared_store.proofs.Turning.{Took, adds, counts, sees_answer, sees_free, takes}
 use Rattle.shared_store.proofs.session.StoreSession.ask_once.Goals as goal
 
 pub leave-requires-clause-adds : goal.leave-requires-clause-adds
@@ -55,6 +55,21 @@ returns-clause-counted g c =
       grows = adds_grow (first_stage (g.S.EpochServer.standing x.first.value)) c.args.self.now.session c.args.request c.ask-answer.result x.entries.items y.entries.items c.ask-answer.ensures.adds;
       first = c.ask-answer.ensures.first;
     } c.leave.ensures.view (base_in first_of c.args.store.now.turn) c.ask-answer.result c.requires.session.1 c.ask-answer.ensures.number
+
+pub returns-clause-put_off : goal.returns-clause-put_off
+returns-clause-put_off g c late =
+    let x = c.enter-hosted.result in
+    let y = c.ask-answer.new.self in
+    let put_off = c.ask-answer.ensures.put_off late in (
+      put_off.0,
+      sees_free c.args.self.now.session c.args.self.now.seat.seat.me.0 c.enter-hosted.new.seat.seat.me.0 x y c.leave.new.seat.seat.me.0 record {
+        owner = c.args.self.now.knows.owner;
+        follows = c.enter-hosted.ensures.follows;
+        enters = c.enter-hosted.ensures.enters;
+        grows = adds_grow (first_stage (g.S.EpochServer.standing x.first.value)) c.args.self.now.session c.args.request c.ask-answer.result x.entries.items y.entries.items c.ask-answer.ensures.adds;
+        first = c.ask-answer.ensures.first;
+      } c.leave.ensures.view (base_in first_of c.args.store.now.turn) c.requires.session.1 put_off.2,
+    )
 
 pub invariant_of-self : goal.invariant_of-self
 invariant_of-self g c =
