@@ -22,7 +22,7 @@
 //!   reply is the one that the rules give after the entries before it.
 //! - What a pass has *seen* is a prefix of that list, with all its own entries.
 //! - A *finish* is a commit or an abort. Each transaction has a *note*, a word that is published at the turn (`finish_board`).
-//! - The *door* is a lock at which threads sleep, which keeps those that wait from taking the processor. No theorem needs it.
+//! - The *door* is where threads sleep that wait, so that they do not take the processor. No theorem needs it.
 //! - A pass is *spent* once it has asked [`MOST_ASKS`] times, 2^40.
 //!
 //! **What is proved.** What the pass has seen grows, is legal, and ends with the entry of the call (`Hall::ask`, clause `ok`:
@@ -36,6 +36,7 @@
 #![tactic(auto)]
 
 mod close;
+mod door;
 mod engine;
 mod engine_hall;
 mod entries;

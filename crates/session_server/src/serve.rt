@@ -43,9 +43,14 @@ impl<S: Server> HallOf<S> {
         if pass.asks == MOST_ASKS {
             return Err(ServeError::PassSpent);
         }
-        let inside = self.door.lock(rt);
-        let answer = take_turn(rt, &self.turn, &mut pass.seat, pass.session, request);
-        drop(inside);
+        let answer = take_turn(
+            rt,
+            &self.door,
+            &self.turn,
+            &mut pass.seat,
+            pass.session,
+            request,
+        );
         pass.asks += 1;
         match answer {
             Ok(reply) => Ok(reply),

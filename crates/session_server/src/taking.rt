@@ -9,6 +9,7 @@ ghost use Rattle.session_server.specs.Growth.{own_of};
 ghost use Rattle.session_server.specs.Turning.{TakesTurn, SeesMore};
 ghost use Rattle.session_server.specs.Waits.{WaitsAmong};
 
+use crate::door::{Door, Next};
 use crate::hosted::Hosted;
 use crate::published::publish_since;
 use hall_server::{Failure, Server};
@@ -16,9 +17,10 @@ use std::sync::Wait;
 use teb_rules::names::{MOST_TXNS, Reply, Request, Session};
 use turn_lock::{SeatOf, Turn};
 
-/// Enters, asks, publishes the finishes, and leaves. It adds the entry of the request if the history has it, and no other.
+/// Passes the door, enters, asks, publishes the finishes, and leaves. It adds the entry of the request if the history has it, and no other.
 pub(crate) fn take_turn<S: Server, R: Wait>(
     rt: &R,
+    door: &Door,
     turn: &Turn<Hosted<S>>,
     seat: &mut SeatOf<Hosted<S>>,
     session: Session,
@@ -34,11 +36,14 @@ pub(crate) fn take_turn<S: Server, R: Wait>(
     ensures waits { (r : TheReply) → told result ≡ Some r → WaitsAmong MOST_TXNS r }
     ensures unsure { (r : TheReply) → IsErrOf result (failures.Unsure r) → S.unsure r }
 {
+    let inside = door.enter(rt, session);
     let mut hosted = turn.enter(rt, seat);
     let before = hosted.server.history().len();
     let answer = hosted.ask(session, request);
     prove!(before <= hosted.server.history().len());
     publish_since(turn, seat, &hosted, before);
+    let next = Next::after(session, hosted.entries.last());
     turn.leave(seat, hosted);
+    door.leave(inside, next);
     answer
 }

@@ -20,7 +20,7 @@
 //! - The *stop word* is 0 until a worker raises it to 1 ([`Stops`]). It is looked at before each request.
 //! - A [`Gate`] is a hook, called before and after each request, outside the turn. The program's does nothing; a trial's holds a
 //!   session.
-//! - After an Again the session polls the transaction that it waits for, at most 64 times, and then asks again.
+//! - After an Again the session polls the transaction that it waits for, at most 64 times with a rest after each, and then asks again.
 //!
 //! **What is proved.** The entries of a session that is through are a whole walk along its script ([`serve`], clause `walk`);
 //! those of any other are a way along it (`way`). A session is stopped only if a look found the stop word raised (`stopped`).

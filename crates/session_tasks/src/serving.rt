@@ -19,13 +19,16 @@ use script_text::Line;
 use script_walk::Walker;
 use session_server::{AskError, Hall, MOST_ASKS, Pass, Poll};
 use std::sync::Wait;
-use std::sync::atomic::{AtomicIn, Rule};
-use std::thread;
+use std::sync::atomic::{AtomicIn, AtomicU64, Rule};
+use std::time::Duration;
 use teb_rules::names::{MOST_TXNS, Reply, Request, Txn};
 use version_chain::Chains;
 
 /// How often a session looks at the transaction that it waits for before it asks again.
 const LOOKS: u32 = 64;
+
+/// How long it rests between two looks, in microseconds.
+const REST: u64 = 50;
 
 /// Serves a session from its walker's line on. `Ok(true)` says that all its lines are done.
 ///
@@ -65,7 +68,7 @@ pub fn serve<C: Chains, G: Gate, S: Rule, R: Wait>(
             return Ok(false);
         }
         match ask_next(rt, hall, pass, lines, walker, request, gate) {
-            Ok(Reply::Again { who, .. }) => look_for(hall, pass, who),
+            Ok(Reply::Again { who, .. }) => look_for(rt, hall, pass, who),
             Ok(_) => {}
             Err(error) => return Err(error),
         }
@@ -119,20 +122,22 @@ fn number_at(walker: &Walker, lines: &[Line]) -> u32
     }
 }
 
-/// Looks at a transaction until it has finished, at most 64 times. If the pass does not know then that it has, each of the 64
-/// looks found that it had not.
+/// Looks at a transaction until it has finished, at most 64 times, and rests after each look. If the pass does not know then that it
+/// has, each of the 64 looks found that it had not.
 #[tactic(auto, using(crate::proofs::Walking::mine_same))]
-fn look_for<C: Chains>(hall: &Hall<C>, pass: &mut Pass<C>, who: Txn)
+fn look_for<C: Chains, R: Wait>(rt: &R, hall: &Hall<C>, pass: &mut Pass<C>, who: Txn)
     requires pass { IsPassOf hall.now pass.old }
     requires who { (1 ≤ who.0) × (who.0 ≤ MOST_TXNS) }
     ensures pass { IsPassOf hall.now pass.new × (pass.new.session ≡ pass.old.session) × (pass.new.asks ≡ pass.old.asks) }
     ensures mine { mine pass.new ≡ mine pass.old }
     ensures looks { known pass.new who.0 ≡ Unfinished → LookedInVain who.0 LOOKS (looked pass.old) (looked pass.new) }
 {
+    // Nobody wakes it: a rest ends with its time.
+    let word = AtomicU64::new(0);
     for _ in 0..LOOKS {
         if let Poll::Finished(_) = hall.poll(pass, who) {
             return;
         }
-        thread::yield_now();
+        word.park_timeout(rt, 0, Duration::from_micros(REST));
     }
 }
