@@ -12,7 +12,8 @@ printed, and at most one more, and the accounts that go with them. After a call 
 printed, and of each session at most one more: the commits that were written together may be there or not.
 
 With the word `runs` the program prints the run of each epoch. `tebaldi audit` must accept each, and refuse one in which a value that was read is another.
-An epoch begins with the rows that the last one left, and the epochs together have as many commits as there were transfers.
+An epoch begins with the rows that the last one left, and the epochs together have as many commits as there were transfers. The program closes its store with
+a checkpoint, unless a call of the disk fails: so the last epoch of a life has no commit.
 """
 import argparse
 import itertools
@@ -31,6 +32,8 @@ PROGRAM = TOP / "crates/embedded_shared/out/embedded_shared"
 AUDITOR = TOP / "crates/tebaldi/out/tebaldi"
 ROW = re.compile(r"(session|account) (\d+) has (-?\d+)\n")
 TOLD = re.compile(r"session (\d+) transfer (\d+)\n")
+CHECKPOINTED = "closed with a checkpoint: true\n"
+NOT_CHECKPOINTED = "closed with a checkpoint: false\n"
 GOT = re.compile(r"(got (t\d+) .* )(\S+)")
 CLIENTS = 8
 FEW = 4
@@ -137,7 +140,7 @@ def try_totals(trials, folder, transfers):
     """8 clients make so many transfers together, over many epochs."""
     path, each = f"{folder}/totals", transfers // CLIENTS
     status, lines, complaint = run(command_of(path, each))
-    wanted = ["0 transfers, and 0 in all accounts\n", "several epochs: true\n", f"{each * CLIENTS} transfers, and 0 in all accounts\n"]
+    wanted = ["0 transfers, and 0 in all accounts\n", CHECKPOINTED, f"{each * CLIENTS} transfers, and 0 in all accounts\n"]
     trials.expect("the sums", status == 0 and lines == wanted, (status, lines, complaint))
     made, accounts = rows_in(path)
     trials.expect("the transfers of each session", made == {session: each for session in range(1, CLIENTS + 1)}, made)
@@ -172,13 +175,16 @@ def try_runs(trials, folder, transfers):
     path, each = f"{folder}/runs", transfers // CLIENTS
     status, lines, complaint = run(command_of(path, each, "runs"))
     runs = [text[: text.index("\nend\n") + 5] for text in "".join(lines).split("epoch\n")[1:]]
-    trials.expect("the runs", status == 0 and len(runs) > 1, (status, len(runs), complaint))
+    # (the last run is that of the epoch that begins with the checkpoint of the closing: it is empty)
+    trials.expect("the runs", status == 0 and len(runs) > 2 and CHECKPOINTED in lines, (status, len(runs), complaint))
     left, commits = [], 0
     for number, text in enumerate(runs, 1):
         answer = audit(text)
         trials.expect(f"epoch {number}: the audit", answer == (0, "audit yes\n"), answer)
         trials.expect(f"epoch {number}: the rows that it begins with", rows_of(text, "start") == left)
-        left, commits = rows_of(text, "row"), commits + len(re.findall("^done ", text, re.MULTILINE))
+        left, done = rows_of(text, "row"), len(re.findall("^done ", text, re.MULTILINE))
+        trials.expect(f"epoch {number}: whether it has commits", (done > 0) == (number < len(runs)), done)
+        commits += done
     trials.expect("the commits", commits == each * CLIENTS, commits)
     made, accounts = rows_in(path)
     rows = {("transfers", key): value for key, value in made.items()} | {("account", key): value for key, value in accounts.items()}
@@ -186,7 +192,7 @@ def try_runs(trials, folder, transfers):
     text, wrong = spoiled(runs[len(runs) // 2])
     answer = audit(text)
     trials.expect("a value that was read is another", answer == (11, f"audit no line {wrong} read\n"), (wrong, answer))
-    print(f"{commits} commits in {len(runs)} epochs are audited")
+    print(f"{commits} commits in {len(runs) - 1} epochs are audited")
 
 
 def try_kills(trials, folder, kills):
@@ -227,8 +233,10 @@ def try_faults(trials, folder):
         trials.expect(f"call {number}: the last one", made_calls == number, made_calls)
         trials.expect(f"call {number}: the transfers", has_each(made, told), f"{made} after {told}")
         trials.expect(f"call {number}: the accounts", accounts == balances_of(made), accounts)
-        trials.expect(f"call {number}: what is said", status != 0 or any("stopped" in line for line in lines), lines)
-    trials.expect("without a failure", status == 0 and told_in(lines) == {session: 8 for session in range(1, FEW + 1)}, (lines, complaint))
+        # (a call that fails at the opening ends the program; any other stops the store, and it is closed without a checkpoint)
+        trials.expect(f"call {number}: what is said", status != 0 or NOT_CHECKPOINTED in lines, lines)
+    done = status == 0 and CHECKPOINTED in lines and told_in(lines) == {session: 8 for session in range(1, FEW + 1)}
+    trials.expect("without a failure", done, (lines, complaint))
     print(f"{number - 1} calls of the disk failed")
 
 

@@ -11,7 +11,6 @@ use epoch_journal::EpochJournal;
 use serial_order::tables;
 use std::alloc::Global;
 use store_server::StoreServer;
-use teb_rules::names::Txn;
 
 /// The accounts, and a row for each session that counts its transfers.
 const TREE: &[u8] = br#"
@@ -66,7 +65,7 @@ pub fn report(
 }
 
 /// The number of transfers that were ever made.
-pub fn transfers(alloc: Global, engine: &Engine<PooledChains>) -> anyhow::Result<i64> {
+fn transfers(alloc: Global, engine: &Engine<PooledChains>) -> anyhow::Result<i64> {
     let mut made = 0_i64;
     for (cell, value) in &tables(alloc, engine)? {
         if cell.table == TRANSFERS {
@@ -74,16 +73,4 @@ pub fn transfers(alloc: Global, engine: &Engine<PooledChains>) -> anyhow::Result
         }
     }
     Ok(made)
-}
-
-/// The number of transfers that were made in the present epoch: each is a transaction.
-pub fn transfers_of_epoch(engine: &Engine<PooledChains>) -> i64 {
-    let history = engine.history();
-    let mut made = 0_i64;
-    for i in 0..history.begun() {
-        if history.is_committed(Txn(i + 1)) {
-            made = made.saturating_add(1);
-        }
-    }
-    made
 }

@@ -16,13 +16,13 @@ ghost use Rattle.std.specs.Prelude.{ℕ, ◌≡◌, ◌<◌, [], false, All, len
 ghost use Rattle.engine_store.specs.Halves.{AreCommitsSince, KeepsCommits};
 ghost use Rattle.shared_store.specs.Sharing.{IsSessionOf};
 
-use bank::{open_bank, report, transfers, transfers_of_epoch};
+use bank::{open_bank, report};
 use client::{Work, run_client};
 use crash_disk::Renew;
 use epoch_journal::EpochJournal;
 use file_disk::FileDisk;
 use recorded::Recorded;
-use shared_store::{EpochServer, Store, StoreSession};
+use shared_store::{Closed, EpochServer, Store, StoreSession};
 use std::alloc::Global;
 use std::env;
 use std::sync::Wait;
@@ -61,8 +61,8 @@ fn main(rt: HostRuntime) -> anyhow::Result<()> {
     run_bank(&rt, alloc, disk, clients.parse()?, work, has_runs)
 }
 
-/// Opens the bank that a disk has, and shares it among that many clients. It prints what there is before and afterwards, and the runs of
-/// the epochs if it is to.
+/// Opens the bank that a disk has, and shares it among that many clients. It prints what there is before and afterwards, the runs of the
+/// epochs if it is to, and whether the store was closed with a checkpoint.
 fn run_bank<R: Threads + Wait + Clock + Print + Sync>(
     rt: &R,
     alloc: Global,
@@ -72,29 +72,22 @@ fn run_bank<R: Threads + Wait + Clock + Print + Sync>(
     has_runs: bool,
 ) -> anyhow::Result<()> {
     let (server, log) = open_bank(alloc, disk)?;
-    let before = transfers(alloc, server.engine())?;
     report(rt, alloc, server.engine(), work.is_loud)?;
     let shared = if has_runs {
         share_recorded(rt, alloc, server, log, clients, work)?
     } else {
-        match share(rt, alloc, server, log, clients, work) {
-            Some((server, _log)) => Some(server),
-            None => None,
-        }
+        share(rt, alloc, server, log, clients, work)
     };
-    let Some(server) = shared else {
+    let Some((server, is_checkpointed)) = shared else {
         println!(rt; "out of memory")?;
         return Ok(());
     };
-    let made = transfers(alloc, server.engine())?.saturating_sub(before);
-    println!(rt;
-        "several epochs: {}",
-        transfers_of_epoch(server.engine()) < made
-    )?;
+    println!(rt; "closed with a checkpoint: {is_checkpointed}")?;
     report(rt, alloc, server.engine(), work.is_loud)
 }
 
-/// Shares a server as `share` does, and then prints the run of each epoch. Returns the server; none if memory is out.
+/// Shares a server as `share` does, and then prints the run of each epoch. The last run is empty if the store was closed with a checkpoint.
+/// Returns what `share` does.
 fn share_recorded<D: Renew + Send + Drop, R: Threads + Wait + Clock + Print + Sync>(
     rt: &R,
     alloc: Global,
@@ -102,21 +95,22 @@ fn share_recorded<D: Renew + Send + Drop, R: Threads + Wait + Clock + Print + Sy
     log: EpochJournal<D>,
     clients: usize,
     work: Work,
-) -> anyhow::Result<Option<StoreServer<D>>>
+) -> anyhow::Result<Option<(StoreServer<D>, bool)>>
     requires fresh { server.queue.engine.events ≡ [] }
     requires waits { AreCommitsSince server.queue.engine.store [] server.queue.engine.events server.queue.waiting }
     requires kept { KeepsCommits D.seen D.may_leave server.queue.engine.store [] 0 log }
     requires running { log.stopped ≡ false }
 {
     let recorded = Recorded::new(alloc, server);
-    let Some((recorded, _log)) = share(rt, alloc, recorded, log, clients, work) else {
+    let Some((recorded, is_checkpointed)) = share(rt, alloc, recorded, log, clients, work) else {
         return Ok(None);
     };
     recorded.print(rt, alloc)?;
-    Ok(Some(recorded.into_server()))
+    Ok(Some((recorded.into_server(), is_checkpointed)))
 }
 
-/// Shares a server and its log among that many clients until they are done, and returns both; none if memory is out.
+/// Shares a server and its log among that many clients until they are done, and closes the store. Returns the server, and whether there is a
+/// checkpoint of its rows; none if memory is out.
 fn share<S: EpochServer + Send + Drop, R: Threads + Wait + Clock + Print + Sync>(
     rt: &R,
     alloc: Global,
@@ -124,7 +118,7 @@ fn share<S: EpochServer + Send + Drop, R: Threads + Wait + Clock + Print + Sync>
     log: S::Log,
     clients: usize,
     work: Work,
-) -> Option<(S, S::Log)>
+) -> Option<(S, bool)>
 where
     S::Log: Send + Drop,
     requires fresh { (S.standing server).events ≡ [] }
@@ -136,8 +130,12 @@ where
         return None;
     };
     run_clients(rt, alloc, &store, &mut sessions, clients, work);
-    let (server, log, _life) = store.close(alloc, sessions);
-    Some((server, log))
+    let Closed {
+        server,
+        is_checkpointed,
+        ..
+    } = store.close(alloc, sessions);
+    Some((server, is_checkpointed))
 }
 
 /// Runs that many clients, each with a session and in a thread of its own. The other sessions ask nothing.

@@ -1,11 +1,11 @@
 -- What a turn adds to the list.
-use Rattle.std.proofs.Common.{◌≡◌, ◌≢◌, Result, Ok, Err, ℕ, suc, List, [], ◌∷◌, ◌++◌, All, append-nil, append_assoc, refl, sym, ◌∙◌, ap, subst, arith}
+use Rattle.std.proofs.Common.{◌≡◌, ◌≢◌, Result, Ok, Err, ℕ, suc, ◌≤◌, List, [], ◌∷◌, ◌++◌, All, append-nil, append_assoc, refl, sym, ◌∙◌, ap, subst, arith}
 use Rattle.teb_rules.specs.declared.names.Reply.{Reply as TheReply}
 use Rattle.teb_rules.specs.declared.names.Request.{Request}
 use Rattle.teb_rules.specs.declared.names.Session.{Session}
 use Rattle.turn_lock.proofs.Lists.{All_map, All_none, All_cons}
 use Rattle.shared_store.specs.declared.entry.LifeEntry.{LifeEntry}
-use Rattle.shared_store.specs.declared.entry.LifeEntry.TheVariants.{Asked, Taken}
+use Rattle.shared_store.specs.declared.entry.LifeEntry.TheVariants.{Asked, Taken, Turned}
 use Rattle.shared_store.specs.declared.entry.TheConstants.{LOG_SEAT}
 use Rattle.shared_store.specs.Ending.{AddsNoCalls}
 use Rattle.shared_store.specs.declared.error.Fault.{Fault}
@@ -13,9 +13,10 @@ use Rattle.shared_store.specs.declared.answer.Answer.{Answer}
 use Rattle.shared_store.specs.declared.answer.Answer.TheVariants as answer
 use Rattle.shared_store.specs.declared.reply.StoreReply.TheVariants.{Reply, Later, Ended}
 use Rattle.shared_store.specs.Stages.{Stage}
-use Rattle.shared_store.specs.Lives.{IsMarkOf, owner_of}
+use Rattle.shared_store.specs.Lives.{IsMarkOf, calls_of, owner_of, taken_of}
 use Rattle.shared_store.specs.Turning.{Adds, AddsAsked, AddsCall, AddsMarks, AddsResult, GrowsBy}
-use Rattle.shared_store.proofs.Calls.{for_other}
+use Rattle.shared_store.proofs.Calls.{calls_append, for_other, none_calls}
+use Rattle.shared_store.proofs.Courses.{taken_behind}
 
 all_append : (P : LifeEntry → Type 0) (xs ys : List LifeEntry) → All P xs → All P ys → All P (xs ++ ys)
 all_append P [] ys a b = b
@@ -91,3 +92,40 @@ no_calls_taken old new is = record {
   calls = λ n. refl;
   owned = All_cons (λ (e : LifeEntry). owner_of e ≡ LOG_SEAT) Taken [] refl (All_none (λ (e : LifeEntry). owner_of e ≡ LOG_SEAT));
 }
+
+pub no_calls_turned : (old new : List LifeEntry) → new ≡ old ++ Turned ∷ [] → AddsNoCalls old new
+no_calls_turned old new is = record {
+  more = Turned ∷ [];
+  is = is;
+  calls = λ n. refl;
+  owned = All_cons (λ (e : LifeEntry). owner_of e ≡ LOG_SEAT) Turned [] refl (All_none (λ (e : LifeEntry). owner_of e ≡ LOG_SEAT));
+}
+
+pub no_calls_same : (old new : List LifeEntry) → new ≡ old → AddsNoCalls old new
+no_calls_same old new is = record { more = []; is = is ∙ sym (append-nil old); calls = λ n. refl; owned = All_none (λ (e : LifeEntry). owner_of e ≡ LOG_SEAT) }
+
+pub no_calls_on : (old mid new : List LifeEntry) → AddsNoCalls old mid → AddsNoCalls mid new → AddsNoCalls old new
+no_calls_on old mid new p q = record {
+  more = p.more ++ q.more;
+  is = q.is ∙ (ap (λ (l : List LifeEntry). l ++ q.more) p.is ∙ append_assoc old p.more q.more);
+  calls = λ n. calls_append n p.more q.more ∙ (ap (λ (l : List LifeEntry). l ++ calls_of n q.more) (p.calls n) ∙ q.calls n);
+  owned = all_append (λ (e : LifeEntry). owner_of e ≡ LOG_SEAT) p.more q.more p.owned q.owned;
+}
+
+-- what is asked for a session at the closing
+module _ (first : Stage) (by s : Session) (q : Request) (old new : List LifeEntry) (seat : by.0 ≡ LOG_SEAT) (small : s.0 ≤ 32) where
+  apart : s.0 ≢ by.0
+  apart e = let k = seat in absurd (omega arith)
+
+  pub closes_for : (o : Result TheReply Fault) → AddsResult first by s q o old new → AddsNoCalls old new
+  closes_for (Ok r) a = record {
+    more = Asked by s q a.short ∷ [];
+    is = a.is;
+    calls = λ n. none_calls by s q a.short n apart;
+    owned = All_cons (λ (e : LifeEntry). owner_of e ≡ LOG_SEAT) (Asked by s q a.short) [] seat (All_none (λ (e : LifeEntry). owner_of e ≡ LOG_SEAT));
+  }
+  closes_for (Err f) a = no_calls_same old new a
+
+pub asks_taken : (first : Stage) (by s : Session) (q : Request) (o : Result TheReply Fault) (old new : List LifeEntry) → AddsResult first by s q o old new → taken_of new ≡ taken_of old
+asks_taken first by s q (Ok r) old new a = ap taken_of a.is ∙ taken_behind old (Asked by s q a.short ∷ []) refl
+asks_taken first by s q (Err f) old new a = ap taken_of a

@@ -1,5 +1,5 @@
 -- What a call changes in a session, by what its seats have seen.
-use Rattle.std.proofs.Common.{◌≡◌, ◌≢◌, Result, Ok, Err, ℕ, ◌+◌, ◌*◌, ◌≤◌, List, ◌++◌, Some, append_assoc, refl, ◌∙◌, ap, subst, arith}
+use Rattle.std.proofs.Common.{◌≡◌, ◌≢◌, Result, Ok, Err, ℕ, ◌+◌, ◌*◌, ◌≤◌, List, ◌++◌, Some, append_assoc, refl, ◌∙◌, ap, subst}
 use Rattle.std.specs.Prelude.{IfOk, IsTrue}
 use Rattle.teb_rules.specs.declared.names.Reply.{Reply as TheReply}
 use Rattle.teb_rules.specs.declared.names.Reply.TheVariants.{Committed}

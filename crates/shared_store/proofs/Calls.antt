@@ -1,5 +1,6 @@
 -- The calls of a session in a list.
-use Rattle.std.proofs.Common.{◌≡◌, ◌≢◌, ℕ, suc, cond, if◌then◌else◌, Bool, true, false, ◌&&◌, ◌==◌, List, [], ◌∷◌, ◌++◌, Option, All, append-nil, refl, ◌∙◌, ap, subst, arith, eq-eqb, ne_eqb}
+use Rattle.std.proofs.Common.{◌≡◌, ◌≢◌, ℕ, suc, cond, if◌then◌else◌, Bool, true, false, ◌&&◌, ◌==◌, List, [], ◌∷◌, ◌++◌, Option, All, append-nil, refl, sym, ◌∙◌, ap, subst, arith, eq-eqb, ne_eqb}
+use Rattle.std.proofs.lemmas.Bool.{eqb-true}
 use Rattle.std.proofs.lemmas.List.Elements.{filter-append}
 use Rattle.teb_rules.specs.declared.names.Session.{Session}
 use Rattle.teb_rules.specs.declared.names.Request.{Request}
@@ -54,3 +55,11 @@ for_other by s q r o = (refl, ap (λ (b : Bool). (by.0 == by.0) && b) (ne_eqb s.
 -- the calls in a list of one call
 pub one_call : (s : Session) (q : Request) (r : Option ShortReply) → calls_of s.0 (Asked s s q r ∷ []) ≡ Asked s s q r ∷ []
 one_call s q r = let e : LifeEntry = Asked s s q r in ap (λ b. cond b (e ∷ []) []) (own_call s q r)
+
+-- what is asked for another session is a call of none
+pub none_calls : (by s : Session) (q : Request) (r : Option ShortReply) (n : ℕ) → s.0 ≢ by.0 → calls_of n (Asked by s q r ∷ []) ≡ []
+none_calls by s q r n o = let e : LifeEntry = Asked by s q r in ap (λ b. cond b (e ∷ []) []) (no_one (by.0 == n) refl)
+  where
+    no_one : (b : Bool) → by.0 == n ≡ b → is_call_of n (Asked by s q r) ≡ false
+    no_one false z = ap (λ (c : Bool). c && (s.0 == n)) z
+    no_one true z = ap (λ (c : Bool). (by.0 == n) && c) (ne_eqb s.0 n (λ w. o (w ∙ sym (eqb-true by.0 n z)))) ∙ and_no (by.0 == n)

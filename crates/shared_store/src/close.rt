@@ -1,6 +1,6 @@
 //! How a store is closed.
 
-ghost use Rattle.std.specs.Prelude.{◌≡◌, ◌≤◌, false, All, map};
+ghost use Rattle.std.specs.Prelude.{◌≡◌, ◌≤◌, [], false, true, All, map};
 ghost use Rattle.teb_rules.specs.declared.names.TheConstants.{SESSIONS};
 ghost use Rattle.turn_lock.specs.Counts.{HasAll};
 ghost use Rattle.shared_store.specs.declared.entry.TheConstants.{LOG_SEAT};
@@ -18,20 +18,35 @@ use std::alloc::Global;
 /// The whole life of a store that was closed, for contracts alone.
 pub type Life = Trace<LifeEntry>;
 
+/// A store that was closed: its server, its log and its whole life. A log that owns a file releases it once it is dropped.
+#[derive(Drop)]
+pub struct Closed<S: EpochServer> {
+    pub server: S,
+    pub log: S::Log,
+    pub life: Life,
+    /// True if the log ends with a checkpoint: it keeps the rows that the life leaves, which are those of the server, and no commit beside
+    /// them. If it is false, the log keeps all commits of the life, unless it has failed.
+    pub is_checkpointed: bool,
+}
+
 impl<S: EpochServer> Store<S> {
-    /// The server, the log, and the life of the store. It takes back all sessions, and writes the commits that wait, unless the log has
-    /// failed. Transactions that are unfinished stay so.
+    /// The server, the log, and the life of the store. It takes back all sessions. Unless the log has failed, it ends the transaction of each
+    /// session that holds one, writes the commits that wait, and then a checkpoint of all rows, with which the epoch ends. There is no
+    /// checkpoint if a call of the log fails, the rows do not fit, or memory is out; an epoch that has not ended stays as it is.
     ///
     /// The life leads from the first stage to where the server is. It begins with what each session has seen, and has no further calls of
     /// it. The log keeps at least as many commits of it as any session was told; all, unless it has failed.
-    pub fn close(self, alloc: Global, mut sessions: Vec<StoreSession<S>>) -> (S, S::Log, Life)
+    pub fn close(self, alloc: Global, mut sessions: Vec<StoreSession<S>>) -> Closed<S>
         requires sessions { All (IsSessionOf self) sessions.items }
         requires all { HasAll SESSIONS (map number_of sessions.items) }
-        ensures life { LeadsToServer (base_of self) (S.standing result.0) result.2.items }
-        ensures owners { All (λ e. (1 ≤ owner_of e) × (owner_of e ≤ LOG_SEAT)) result.2.items }
-        ensures sessions { All (IsWithin result.2.items) sessions.items }
-        ensures kept { IsKeptToTheEnd (S.keeps result.1) (base_of self) (S.failed result.1) result.2.items sessions.items }
-        ensures all { S.failed result.1 ≡ false → taken_of result.2.items ≡ result.2.items }
+        ensures life { LeadsToServer (base_of self) (S.standing result.server) result.life.items }
+        ensures owners { All (λ e. (1 ≤ owner_of e) × (owner_of e ≤ LOG_SEAT)) result.life.items }
+        ensures sessions { All (IsWithin result.life.items) sessions.items }
+        ensures kept { IsKeptToTheEnd (S.keeps result.log) (base_of self) (S.failed result.log) result.life.items sessions.items }
+        ensures all { S.failed result.log ≡ false → taken_of result.life.items ≡ result.life.items }
+        ensures begun { result.is_checkpointed ≡ true → (S.standing result.server).events ≡ [] }
+        ensures checkpoint { result.is_checkpointed ≡ true → ∥ S.keeps result.log (S.standing result.server).store [] 0 ∥₁ }
+        ensures running { result.is_checkpointed ≡ true → S.failed result.log ≡ false }
     {
         let Store { turn, log_turn, .. } = self;
         let (mut seat, mut log_seat) = sessions.pop().unwrap().into_seats();

@@ -1,8 +1,9 @@
 //! How an epoch ends.
 
-ghost use Rattle.std.specs.Prelude.{◌≡◌, ◌≤◌, true, false, OnOk};
+ghost use Rattle.std.specs.Prelude.{◌≡◌, ◌≤◌, [], true, false, OnOk};
 ghost use Rattle.commit_laws.specs.Commits.{commit_count};
 ghost use Rattle.shared_store.specs.declared.entry.TheConstants.{LOG_SEAT};
+ghost use Rattle.shared_store.specs.Ending.{AddsNoCalls};
 ghost use Rattle.shared_store.specs.Holding.{IsKept};
 ghost use Rattle.shared_store.specs.Lives.{taken_of};
 ghost use Rattle.shared_store.specs.Served.{IsDrained};
@@ -30,9 +31,9 @@ pub(crate) struct DueEpoch<S: EpochServer> {
 
 /// An epoch that may end, with a log that has not failed and keeps all its commits.
 #[derive(Drop)]
-struct WrittenEpoch<S: EpochServer> {
-    hosted: Hosted<S>,
-    log: S::Log,
+pub(crate) struct WrittenEpoch<S: EpochServer> {
+    pub(crate) hosted: Hosted<S>,
+    pub(crate) log: S::Log,
     ghost drained: { IsDrained (S.standing hosted.server).events },
     ghost waits: { ∥ S.waits hosted.server (S.standing hosted.server).events ∥₁ },
     ghost kept: { ∥ S.keeps log (S.standing hosted.server).store (S.standing hosted.server).events (commit_count (S.standing hosted.server).events) ∥₁ },
@@ -77,12 +78,16 @@ impl<S: EpochServer> WrittenEpoch<S> {
     ///
     /// # Errors
     /// The epoch goes on. The log keeps what it kept; it may have failed.
-    fn turned(self, alloc: Global) -> (Hosted<S>, S::Log, Result<(), Fault>)
+    pub(crate) fn turned(self, alloc: Global) -> (Hosted<S>, S::Log, Result<(), Fault>)
         ensures grows { GrowsBy LOG_SEAT self.hosted.entries.items result.0.entries.items }
         ensures first { result.0.first ≡ self.hosted.first }
         ensures same { result.0.commits ≡ self.hosted.commits }
         ensures kept { ∥ IsKept (S.keeps result.1) (first_stage (S.standing self.hosted.first.value)) false self.hosted.commits result.0.entries.items ∥₁ }
         ensures running { OnOk result.2 (S.failed result.1 ≡ false) }
+        ensures begun { OnOk result.2 ((S.standing result.0.server).events ≡ []) }
+        ensures checkpoint { OnOk result.2 (∥ S.keeps result.1 (S.standing result.0.server).store [] 0 ∥₁) }
+        ensures all { taken_of result.0.entries.items ≡ result.0.entries.items }
+        ensures calls { AddsNoCalls self.hosted.entries.items result.0.entries.items }
     {
         let WrittenEpoch { hosted, log } = self;
         let Hosted {

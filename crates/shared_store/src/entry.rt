@@ -10,7 +10,7 @@ pub const LOG_SEAT: u8 = 33;
 #[derive(Clone, Copy, Debug, PartialEq, Eq)]
 pub enum LifeEntry {
     /// A request of a session, with its reply; none if the reply has the values of a scan. `by` is the session that asked: another one only
-    /// for an End by which it ended the transaction of the session.
+    /// for an End by which it ended the transaction of the session, and `LOG_SEAT` for one by which the closing of the store did.
     Asked {
         by: Session,
         session: Session,

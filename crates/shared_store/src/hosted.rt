@@ -6,7 +6,6 @@ ghost use Rattle.shared_store.specs.declared.entry.LifeEntry.TheVariants as entr
 ghost use Rattle.shared_store.specs.declared.entry.TheConstants.{LOG_SEAT};
 ghost use Rattle.shared_store.specs.Beginning.{HasRoomFor, IsBegin, holds};
 ghost use Rattle.shared_store.specs.Commits.{commits_in};
-ghost use Rattle.shared_store.specs.Ending.{AddsNoCalls, IsKeptAfter, LeadsToServer};
 ghost use Rattle.shared_store.specs.Holding.{IsBrought, IsKept, IsLifeOf, IsWaiting, stage_of};
 ghost use Rattle.shared_store.specs.Lives.{IsShortOf, owner_of, taken_of};
 ghost use Rattle.shared_store.specs.Served.{IsDrained};
@@ -178,7 +177,7 @@ impl<S: EpochServer> Hosted<S> {
     }
 
     /// Asks the server at the turn of session `by`, and adds an entry of what its history has.
-    fn put(
+    pub(crate) fn put(
         &mut self,
         alloc: Global,
         by: Session,
@@ -277,39 +276,6 @@ impl<S: EpochServer> Hosted<S> {
             return due.end(alloc);
         }
         (self, log, total, false, Ok(()))
-    }
-
-    /// Takes the server out, with the life. It first writes what waits, unless the log has failed. The log keeps the first `total` commits.
-    pub(crate) fn finish(
-        self,
-        alloc: Global,
-        mut log: S::Log,
-        total: u64,
-    ) -> (S, S::Log, Trace<LifeEntry>)
-        requires kept { ∥ IsKept (S.keeps log) (first_stage (S.standing self.first.value)) (S.failed log) total self.entries.items ∥₁ }
-        ensures life { LeadsToServer (first_stage (S.standing self.first.value)) (S.standing result.0) result.2.items }
-        ensures more { AddsNoCalls self.entries.items result.2.items }
-        ensures kept { IsKeptAfter (S.keeps result.1) (first_stage (S.standing self.first.value)) (S.failed result.1) total result.2.items }
-        ensures all { S.failed result.1 ≡ false → taken_of result.2.items ≡ result.2.items }
-    {
-        let failed = S::has_failed(&log);
-        if failed {
-            let Hosted {
-                server,
-                entries,
-                ..
-            } = self;
-            return (server, log, entries);
-        }
-        let mut hosted = self;
-        let batch = hosted.take(alloc);
-        let _written = S::write(&mut log, alloc, batch);
-        let Hosted {
-            server,
-            entries,
-            ..
-        } = hosted;
-        (server, log, entries)
     }
 
     /// Keeps that the log has failed. Nothing is asked from then on.

@@ -39,18 +39,20 @@
 //! its epoch. Only a Begin of a session that holds no transaction is answered `Later`. A session is answered Committed only if the
 //! log has told it that it keeps at least as many commits as the life has up to this one, and the log keeps as many as it tells (`IsKept`): a
 //! crash leaves them. Nothing is asked after the log has failed. [`Store::close`] returns a server to which the life leads, and a log that
-//! keeps all of it, unless it has failed.
+//! keeps all of it, unless it has failed, and ends with a checkpoint if one could be written.
 //!
 //! Threads may share a store, and a session may go to another thread, if the server and the log may (`embedded_shared` is an example).
 //!
 //! **Not claimed**: that a session ever gets its turn, or how many commits share a write; that an epoch ends while a session keeps its
-//! transaction open. A silent session can be ended by another, with [`StoreSession::expel`].
+//! transaction open; that a closing writes a checkpoint if nothing is in the way. A silent session can be ended by another, with
+//! [`StoreSession::expel`].
 #![tactic(auto)]
 
 mod answer;
 mod ask;
 mod asking;
 mod close;
+mod closing;
 mod due_epoch;
 mod entry;
 mod error;
@@ -70,7 +72,7 @@ mod taking;
 mod trace;
 mod writing;
 
-pub use close::Life;
+pub use close::{Closed, Life};
 pub use entry::{LOG_SEAT, LifeEntry};
 pub use error::{Fault, StoreError};
 pub use first::First;

@@ -1,4 +1,9 @@
+use Rattle.std.proofs.Common.{refl, sym, ap, ◌∙◌}
+use Rattle.shared_store.specs.declared.entry.LifeEntry.TheVariants.{Turned}
+use Rattle.shared_store.specs.Lives.{taken_of}
 use Rattle.shared_store.specs.Stages.{first_stage}
+use Rattle.shared_store.proofs.Adding.{no_calls, no_calls_turned}
+use Rattle.shared_store.proofs.Courses.{taken_all}
 use Rattle.shared_store.proofs.Living.{kept_on, kept_turned, life_same, life_turned, waiting_on, waiting_turned}
 use Rattle.shared_store.proofs.Results.{on_err, on_ok}
 use Rattle.shared_store.proofs.due_epoch.WrittenEpoch.turned.Goals as goal
@@ -45,3 +50,18 @@ returns-in-Err-clause-kept g c =
     let y = g.S.EpochServer.standing c.next_epoch-server.result.0 in
     let b = on_err _ c.next_epoch-server.result.2 c.in-Err.fault c.in-Err.is c.next_epoch-server.ensures.same in
     kept_on first x y old.past old.commits old.stopped old.entries.items old.life b.0 c.args.self.taken (g.S.EpochServer.keeps c.next_epoch-server.result.1) b.2
+
+pub returns-in-Ok-clause-begun : goal.returns-in-Ok-clause-begun
+returns-in-Ok-clause-begun g c = (on_ok _ c.next_epoch-server.result.2 c.in-Ok.field-0 c.in-Ok.is c.next_epoch-server.ensures.begun).0.events
+
+pub returns-in-Ok-clause-checkpoint : goal.returns-in-Ok-clause-checkpoint
+returns-in-Ok-clause-checkpoint g c = (on_ok _ c.next_epoch-server.result.2 c.in-Ok.field-0 c.in-Ok.is c.next_epoch-server.ensures.begun).2
+
+pub returns-in-Ok-clause-all : goal.returns-in-Ok-clause-all
+returns-in-Ok-clause-all g c = ap taken_of c.push.ensures ∙ (taken_all c.args.self.hosted.entries.items Turned refl ∙ sym c.push.ensures)
+
+pub returns-in-Ok-clause-calls : goal.returns-in-Ok-clause-calls
+returns-in-Ok-clause-calls g c = no_calls_turned c.args.self.hosted.entries.items c.push.new.self.items c.push.ensures
+
+pub returns-in-Err-clause-calls : goal.returns-in-Err-clause-calls
+returns-in-Err-clause-calls g c = no_calls c.args.self.hosted.entries.items

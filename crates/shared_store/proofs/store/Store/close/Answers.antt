@@ -81,22 +81,22 @@ finish-requires g c =
     }
 
 pub returns-clause-owners : goal.returns-clause-owners
-returns-clause-owners g c = owned_all c.end.result.entries.items c.finish.result.2.items c.finish.ensures.more
+returns-clause-owners g c = owned_all c.end.result.entries.items c.finish.result.life.items c.finish.ensures.more
     (subst (λ n. AreOwned owner_of n c.end.result.entries.items) c.args.self.sized.0 c.end.ensures.owned)
 
 pub returns-clause-sessions : goal.returns-clause-sessions
 returns-clause-sessions g c =
     let none : length c.loop-session.sessions.items ≡ 0 = search rules in
     let x = c.end.result in
-    all_within c.args.self.turn c.args.sessions.items c.loop-session.sessions.items c.loop-session.seat x c.finish.result.2.items none
+    all_within c.args.self.turn c.args.sessions.items c.loop-session.sessions.items c.loop-session.seat x c.finish.result.life.items none
     (first_ends c.loop-session.seat c.into_parts-log.result.1 c.join-2.new.seat c.join-2.ensures.view x c.end.ensures.ends) c.finish.ensures.more c.loop-session.invariant.0
 
 pub returns-clause-kept : goal.returns-clause-kept
 returns-clause-kept g c =
     let none : length c.loop-session.sessions.items ≡ 0 = search rules in
     let keeper = c.end-keeper.result in
-    let life = c.finish.result.2.items in
-    let keep = g.S.EpochServer.keeps c.finish.result.1 in
-    let failed = g.S.EpochServer.failed c.finish.result.1 in
+    let life = c.finish.result.life.items in
+    let keep = g.S.EpochServer.keeps c.finish.result.log in
+    let failed = g.S.EpochServer.failed c.finish.result.log in
     kept_to_end c.args.self.log_turn c.args.sessions.items c.loop-session.sessions.items c.loop-session.log_seat keeper keep (base_of c.args.self) failed life none c.end-keeper.ensures.ends
     (subst (λ (b : Stage). IsKeptAfter keep b failed keeper.total life) c.end.ensures.base c.finish.ensures.kept) c.loop-session.invariant.1
