@@ -2,4 +2,5 @@ pub mod Trees
 pub mod Ending
 pub mod Standings
 pub mod Found
+pub mod Opened
 pub mod Serial

@@ -1,6 +1,7 @@
 //! Why a store is not opened.
 
 use engine_store::OpenError;
+use file_disk::OpenError as FileError;
 use thiserror::Error;
 use tree_toml::TreeText;
 
@@ -19,4 +20,20 @@ pub enum ServeError {
 pub struct NotServed<D> {
     pub disk: D,
     pub why: ServeError,
+}
+
+/// Why a store in a file is not opened.
+#[derive(Debug, Drop, Error)]
+pub enum OpenFileError {
+    /// The capacity is 0, or 2^40 or more.
+    #[error("a store in a file has 1 to 2^40 - 1 bytes")]
+    BadCapacity,
+    /// The file cannot be opened, locked, read or synced.
+    #[error("{0}")]
+    File(FileError),
+    /// The tree text is refused, or the file is no store under these tables.
+    #[error("{0}")]
+    NotServed(ServeError),
+    #[error("out of memory")]
+    OutOfMemory,
 }

@@ -14,7 +14,8 @@
 //! | `write` | as `write_commits` does: four calls of the disk, two of them syncs, however many commits there are, and none if there is none |
 //! | `next_epoch` | as `EngineQueue::next_epoch` does, under the same tree |
 //!
-//! [`StoreServer::open`] opens a disk under a tree text, which may be another one than before over the same tables. It returns both
+//! [`open_file`] opens a file and shares it in one call. [`StoreServer::open`] opens any disk under a tree text, which may be another one
+//! than before over the same tables. It returns both
 //! halves; `StoreServer::into_store` joins them again.
 //!
 //! **What is proved.** An opened store has the rows of its disk, and nothing has happened in it. On a disk that a crash left
@@ -29,10 +30,12 @@
 #![tactic(auto)]
 
 mod error;
+mod file_store;
 mod laws;
 mod opening;
 mod server;
 
-pub use error::{NotServed, ServeError};
+pub use error::{NotServed, OpenFileError, ServeError};
+pub use file_store::{FileServer, open_file};
 pub use laws::shared_lives_are_serial;
 pub use server::StoreServer;
