@@ -140,7 +140,7 @@ def try_totals(trials, folder, transfers):
     """8 clients make so many transfers together, over many epochs."""
     path, each = f"{folder}/totals", transfers // CLIENTS
     status, lines, complaint = run(command_of(path, each))
-    wanted = ["0 transfers, and 0 in all accounts\n", CHECKPOINTED, f"{each * CLIENTS} transfers, and 0 in all accounts\n"]
+    wanted = [CHECKPOINTED, f"{each * CLIENTS} transfers, and 0 in all accounts\n"]
     trials.expect("the sums", status == 0 and lines == wanted, (status, lines, complaint))
     made, accounts = rows_in(path)
     trials.expect("the transfers of each session", made == {session: each for session in range(1, CLIENTS + 1)}, made)

@@ -1,16 +1,10 @@
 //! The bank in a file.
 
-ghost use Rattle.std.specs.Prelude.{◌≡◌, [], false, IfOk};
-ghost use Rattle.engine_store.specs.Halves.{AreCommitsSince, KeepsCommits};
-
 use crate::client::TRANSFERS;
 use chain_pool::PooledChains;
-use crash_disk::Renew;
 use engine_core::Engine;
-use epoch_journal::EpochJournal;
 use serial_order::tables;
-use std::alloc::Global;
-use store_server::StoreServer;
+use std::alloc::{AllocError, Global};
 
 /// The accounts, and a row for each session that counts its transfers.
 const TREE: &[u8] = br#"
@@ -24,20 +18,12 @@ control = "locks"
 types = ["transfer"]
 "#;
 
-/// Opens the bank that a disk has, or a new one on an empty disk.
-pub fn open_bank<D: Renew + Drop>(
-    alloc: Global,
-    disk: D,
-) -> anyhow::Result<(StoreServer<D>, EpochJournal<D>)>
-    ensures events { IfOk result (λ o. o.0.queue.engine.events ≡ []) }
-    ensures waits { IfOk result (λ o. AreCommitsSince o.0.queue.engine.store [] o.0.queue.engine.events o.0.queue.waiting) }
-    ensures kept { IfOk result (λ o. KeepsCommits D.seen D.may_leave o.0.queue.engine.store [] 0 o.1) }
-    ensures running { IfOk result (λ o. o.1.stopped ≡ false) }
-{
-    match StoreServer::open(alloc, disk, TREE.to_vec(alloc)?) {
-        Ok(halves) => Ok(halves),
-        Err(refused) => Err(refused.why.into()),
-    }
+/// Returns the tree text of the bank.
+///
+/// # Errors
+/// Out of memory.
+pub fn tree(alloc: Global) -> Result<Vec<u8>, AllocError> {
+    TREE.to_vec(alloc)
 }
 
 /// Prints how many transfers there are, and the sum of all accounts, which no transfer changes; if it is loud, also the transfers of each
@@ -48,10 +34,13 @@ pub fn report(
     engine: &Engine<PooledChains>,
     is_loud: bool,
 ) -> anyhow::Result<()> {
+    let mut made = 0_i64;
     let mut total = 0_i64;
     for (cell, value) in &tables(alloc, engine)? {
         let is_count = cell.table == TRANSFERS;
-        if !is_count {
+        if is_count {
+            made = made.saturating_add(*value);
+        } else {
             total = total.saturating_add(*value);
         }
         if is_loud {
@@ -59,18 +48,6 @@ pub fn report(
             println!(rt; "{what} {} has {value}", cell.key)?;
         }
     }
-    let made = transfers(alloc, engine)?;
     println!(rt; "{made} transfers, and {total} in all accounts")?;
     Ok(())
-}
-
-/// The number of transfers that were ever made.
-fn transfers(alloc: Global, engine: &Engine<PooledChains>) -> anyhow::Result<i64> {
-    let mut made = 0_i64;
-    for (cell, value) in &tables(alloc, engine)? {
-        if cell.table == TRANSFERS {
-            made = made.saturating_add(*value);
-        }
-    }
-    Ok(made)
 }

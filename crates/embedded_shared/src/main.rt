@@ -1,5 +1,7 @@
 //! A bank in a file, shared by threads: each client has a session and a thread, and moves money between accounts.
 //!
+//! The store is opened by `open_file` and closed by `Store::close`; then the program prints the sums of the bank.
+//!
 //! `client` has what every thread needs: it asks again while an older transaction is in the way or an epoch comes to its end, and starts
 //! over if the store aborts its transaction. The store goes on from epoch to epoch as the threads ask it. The program may be killed at any
 //! moment. Whatever transfer it has printed is in the file when it is started again.
@@ -12,23 +14,22 @@ mod bank;
 mod client;
 mod recorded;
 
-ghost use Rattle.std.specs.Prelude.{ℕ, ◌≡◌, ◌<◌, [], false, All, length, slice_index_or};
-ghost use Rattle.engine_store.specs.Halves.{AreCommitsSince, KeepsCommits};
-ghost use Rattle.shared_store.specs.Sharing.{IsSessionOf};
+ghost use Rattle.std.specs.Prelude.{ℕ, ◌≡◌, ◌<◌, All, length, map, slice_index_or};
+ghost use Rattle.teb_rules.specs.history.Phases.{numbers};
+ghost use Rattle.shared_store.specs.Sharing.{IsNew, IsSessionOf, number_of};
 
-use bank::{open_bank, report};
+use bank::{report, tree};
 use client::{Work, run_client};
-use crash_disk::Renew;
-use epoch_journal::EpochJournal;
 use file_disk::FileDisk;
 use recorded::Recorded;
 use shared_store::{Closed, EpochServer, Store, StoreSession};
 use std::alloc::Global;
 use std::env;
+use std::fs::{File, Files};
 use std::sync::Wait;
 use std::thread::{self, Threads};
 use std::time::Clock;
-use store_server::StoreServer;
+use store_server::{StoreServer, open_file};
 use teb_rules::names::SESSIONS;
 
 /// A file has fewer bytes than this.
@@ -53,89 +54,67 @@ fn main(rt: HostRuntime) -> anyhow::Result<()> {
         is_loud: word.is_some() && !has_runs,
     };
     let bytes = bytes.parse::<u64>()?;
+    let clients = clients.parse()?;
+    if has_runs {
+        return run_recorded(&rt, alloc, &path, bytes, clients, work);
+    }
+    let (store, sessions) = open_file(&rt, alloc, &path, bytes, tree(alloc)?)?;
+    let (server, is_checkpointed) = share(&rt, alloc, store, sessions, clients, work);
+    println!(rt; "closed with a checkpoint: {is_checkpointed}")?;
+    report(&rt, alloc, server.engine(), work.is_loud)
+}
+
+/// Shares the bank in a file among that many clients, as `main` does, and prints the run of each epoch first. The last run is empty if the
+/// store was closed with a checkpoint.
+fn run_recorded<R: Files<File = File> + Threads + Wait + Clock + Print + Sync>(
+    rt: &R,
+    alloc: Global,
+    path: &str,
+    bytes: u64,
+    clients: usize,
+    work: Work,
+) -> anyhow::Result<()> {
     if bytes == 0 || MOST_BYTES <= bytes {
         println!(rt; "the file is to have 1 to {} bytes", MOST_BYTES - 1)?;
         return Ok(());
     }
-    let disk = FileDisk::open_with_capacity(&rt, alloc, &path, bytes)?;
-    run_bank(&rt, alloc, disk, clients.parse()?, work, has_runs)
-}
-
-/// Opens the bank that a disk has, and shares it among that many clients. It prints what there is before and afterwards, the runs of the
-/// epochs if it is to, and whether the store was closed with a checkpoint.
-fn run_bank<R: Threads + Wait + Clock + Print + Sync>(
-    rt: &R,
-    alloc: Global,
-    disk: FileDisk,
-    clients: usize,
-    work: Work,
-    has_runs: bool,
-) -> anyhow::Result<()> {
-    let (server, log) = open_bank(alloc, disk)?;
-    report(rt, alloc, server.engine(), work.is_loud)?;
-    let shared = if has_runs {
-        share_recorded(rt, alloc, server, log, clients, work)?
-    } else {
-        share(rt, alloc, server, log, clients, work)
+    let disk = FileDisk::open_with_capacity(rt, alloc, path, bytes)?;
+    let (server, log) = match StoreServer::open(alloc, disk, tree(alloc)?) {
+        Ok(halves) => halves,
+        Err(refused) => return Err(refused.why.into()),
     };
-    let Some((server, is_checkpointed)) = shared else {
+    let Ok((store, sessions)) = Store::new(alloc, Recorded::new(alloc, server), log) else {
         println!(rt; "out of memory")?;
         return Ok(());
     };
-    println!(rt; "closed with a checkpoint: {is_checkpointed}")?;
-    report(rt, alloc, server.engine(), work.is_loud)
-}
-
-/// Shares a server as `share` does, and then prints the run of each epoch. The last run is empty if the store was closed with a checkpoint.
-/// Returns what `share` does.
-fn share_recorded<D: Renew + Send + Drop, R: Threads + Wait + Clock + Print + Sync>(
-    rt: &R,
-    alloc: Global,
-    server: StoreServer<D>,
-    log: EpochJournal<D>,
-    clients: usize,
-    work: Work,
-) -> anyhow::Result<Option<(StoreServer<D>, bool)>>
-    requires fresh { server.queue.engine.events ≡ [] }
-    requires waits { AreCommitsSince server.queue.engine.store [] server.queue.engine.events server.queue.waiting }
-    requires kept { KeepsCommits D.seen D.may_leave server.queue.engine.store [] 0 log }
-    requires running { log.stopped ≡ false }
-{
-    let recorded = Recorded::new(alloc, server);
-    let Some((recorded, is_checkpointed)) = share(rt, alloc, recorded, log, clients, work) else {
-        return Ok(None);
-    };
+    let (recorded, is_checkpointed) = share(rt, alloc, store, sessions, clients, work);
     recorded.print(rt, alloc)?;
-    Ok(Some((recorded.into_server(), is_checkpointed)))
+    println!(rt; "closed with a checkpoint: {is_checkpointed}")?;
+    report(rt, alloc, recorded.into_server().engine(), work.is_loud)
 }
 
-/// Shares a server and its log among that many clients until they are done, and closes the store. Returns the server, and whether there is a
-/// checkpoint of its rows; none if memory is out.
+/// Shares a store among that many clients until they are done, and closes it. Returns the server, and whether there is a checkpoint of its
+/// rows.
 fn share<S: EpochServer + Send + Drop, R: Threads + Wait + Clock + Print + Sync>(
     rt: &R,
     alloc: Global,
-    server: S,
-    log: S::Log,
+    store: Store<S>,
+    mut sessions: Vec<StoreSession<S>>,
     clients: usize,
     work: Work,
-) -> Option<(S, bool)>
+) -> (S, bool)
 where
     S::Log: Send + Drop,
-    requires fresh { (S.standing server).events ≡ [] }
-    requires waits { ∥ S.waits server [] ∥₁ }
-    requires kept { ∥ S.keeps log (S.standing server).store [] 0 ∥₁ }
-    requires running { S.failed log ≡ false }
+    requires sessions { All (IsNew store) sessions.items }
+    requires numbers { map number_of sessions.items ≡ numbers SESSIONS }
 {
-    let Ok((store, mut sessions)) = Store::new(alloc, server, log) else {
-        return None;
-    };
     run_clients(rt, alloc, &store, &mut sessions, clients, work);
     let Closed {
         server,
         is_checkpointed,
         ..
     } = store.close(alloc, sessions);
-    Some((server, is_checkpointed))
+    (server, is_checkpointed)
 }
 
 /// Runs that many clients, each with a session and in a thread of its own. The other sessions ask nothing.
