@@ -107,10 +107,10 @@ def rows_in(path, size=BYTES):
     status, lines, complaint = run(command_of(path, 0, "loud", size=size))
     if status:
         sys.exit(f"the file is not opened: {complaint}")
-    # (the program prints what it finds, and then the same again, since nobody made a transfer)
+    # (nobody makes a transfer, so the program prints what it finds)
     end = next(i for i, line in enumerate(lines) if " transfers, and " in line)
     rows = {"session": {}, "account": {}}
-    for what, key, value in (ROW.fullmatch(line).groups() for line in lines[:end]):
+    for what, key, value in (row.groups() for row in map(ROW.fullmatch, lines[:end]) if row):
         rows[what][int(key)] = int(value)
     return rows["session"], rows["account"]
 
