@@ -79,7 +79,10 @@ impl AccessBook {
         }
     }
 
-    /// Makes room for n events. The lists are unchanged, also on `Err`.
+    /// Makes room for n events.
+    ///
+    /// # Errors
+    /// `AllocError`: out of memory, or a limit of `CellIndex` or `NumberedLists` is reached. The lists are unchanged.
     pub fn reserve(&mut self, n: usize) -> Result<(), AllocError>
         ensures same { IsKept self.old self.new }
         ensures room { OnOk result (n ≤ self.new.spare) }

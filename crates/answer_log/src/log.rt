@@ -17,7 +17,10 @@ pub trait Log: Drop {
     /// There is room for one answer.
     ghost has_room: { Self → Type 0 };
 
-    /// Makes room for one answer. The log tells what it told before, also if this fails. It does not fail if there is room already.
+    /// Makes room for one answer. It does not fail if there is room already.
+    ///
+    /// # Errors
+    /// `AllocError`: out of memory. The log tells what it told before.
     fn ready(&mut self, names: &NameBook) -> Result<(), AllocError>
         ensures told { (answers : List Answered) → tells self.old names.now answers → tells self.new names.now answers }
         ensures room { OnOk result (has_room self.new) }

@@ -49,6 +49,9 @@ impl ReplyText {
     }
 
     /// Returns the whole text.
+    ///
+    /// # Errors
+    /// `AllocError`: out of memory for a line that waits. The text is dropped.
     pub fn into_text(mut self, names: &NameBook) -> Result<Vec<u8>, AllocError>
         ensures { (answers : List Answered) → HasLines self names.now answers → All (λ a. ReplyNamed names.now a.reply) answers
             → IfOk result (λ text. text.items ≡ flat_map (reply_text names.now) answers) }

@@ -16,7 +16,10 @@ use super::line::Line;
 use super::marks::{keep, list_at, marked};
 use std::alloc::{AllocError, Global};
 
-/// Finds the first line that commits a transaction before one that it read from.
+/// Checks that no line commits a transaction before one that it read from.
+///
+/// # Errors
+/// `No` with `After` names the first line that does. `OutOfMemory`: out of memory.
 pub fn check_after(alloc: Global, lines: &[Line]) -> Result<(), AuditError>
     requires { length lines.now < 2 ^ 32 }
     ensures { Finds After wrong_after (views lines.now) result }

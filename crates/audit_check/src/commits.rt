@@ -16,7 +16,10 @@ use super::line::Line;
 use super::marks::{mark, marked};
 use std::alloc::{AllocError, Global};
 
-/// Finds the order line, if it does not list each committed transaction once and no other.
+/// Checks that the order line lists each committed transaction once, and no other.
+///
+/// # Errors
+/// `No` with `Order` names the order line if it does not. `OutOfMemory`: out of memory.
 pub fn check_order(alloc: Global, lines: &[Line]) -> Result<(), AuditError>
     requires { length lines.now < 2 ^ 32 }
     ensures { Finds Order (wrong_order (views lines.now)) (views lines.now) result }
@@ -42,6 +45,9 @@ fn committed(alloc: Global, lines: &[Line]) -> Result<Vec<bool>, AllocError>
 }
 
 /// Marks the transaction of a line, if the line commits it.
+///
+/// # Errors
+/// `AllocError`: out of memory. The marks are unchanged.
 pub fn mark_commit(done: &mut Vec<bool>, line: &Line) -> Result<(), AllocError>
     ensures { OnOk result ((t : ℕ) → is_marked done.new.items t ≡ (is_done t (line_view line.now) || is_marked done.old.items t)) }
 {

@@ -20,7 +20,10 @@ struct Cells<'a> {
     rows: IndexSet<RowKey<'a>>,
 }
 
-/// Returns the lines of a text, or the first one that does not fit after those before it.
+/// Returns the lines of a text, which are those of a printed run.
+///
+/// # Errors
+/// `No` with `Form` names the first line that does not fit after those before it. `OutOfMemory`: out of memory.
 #[tactic(auto, using(crate::proofs::FormSteps::has_part, crate::proofs::FormSteps::as_many), unfolding(crate::specs::Lines::items_of))]
 pub fn read_lines<'a>(alloc: Global, text: &'a [u8]) -> Result<Vec<Line<'a>>, AuditError>
     requires { length (parts_of text.now) < 2 ^ 32 }

@@ -6,6 +6,9 @@ ghost use Rattle.audit_check.specs.Marks.{is_marked, list_at};
 use std::alloc::{AllocError, Global};
 
 /// Marks a number.
+///
+/// # Errors
+/// `AllocError`: out of memory. The marks are unchanged.
 pub fn mark(marks: &mut Vec<bool>, number: u32) -> Result<(), AllocError>
     ensures { OnOk result ((n : ℕ) → is_marked marks.new.items n ≡ (number == n || is_marked marks.old.items n)) }
 {
@@ -26,6 +29,9 @@ pub fn marked(marks: &[bool], number: u32) -> bool
 }
 
 /// Appends a value to the list of a number.
+///
+/// # Errors
+/// `AllocError`: out of memory. The list of each number is unchanged.
 pub fn keep(
     alloc: Global,
     lists: &mut Vec<Vec<u32>>,

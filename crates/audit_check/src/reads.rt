@@ -32,7 +32,10 @@ impl<'a> Drop for Replay<'a> {
     }
 }
 
-/// Finds the first wrong read. If there is none, returns the result of the order.
+/// Runs the transactions of the order line serially, and returns the result.
+///
+/// # Errors
+/// `No` with `Read` names the first wrong read. `OutOfMemory`: out of memory.
 pub fn check_reads<'a>(alloc: Global, lines: &[Line<'a>]) -> Result<Replay<'a>, AuditError>
     requires few { length lines.now < 2 ^ 32 }
     requires once { are_distinct (order_in (views lines.now)) ≡ true }

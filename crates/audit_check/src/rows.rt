@@ -16,7 +16,11 @@ use super::table::{Table, value_at};
 use indexmap::IndexSet;
 use std::alloc::{AllocFailed, Global};
 
-/// Finds the first row line that is not in the last table, or the end if a row of the table is missing.
+/// Checks that each row line is a row of the last table, and that each row of the table has a line.
+///
+/// # Errors
+/// `No` with `Row` names the first row line that is not in the table, or the line `end` if a row of the table has no line.
+/// `OutOfMemory`: out of memory.
 pub fn check_rows<'a>(
     alloc: Global,
     table: &Table<'a>,

@@ -23,6 +23,9 @@ impl<'a> Drop for Table<'a> {
 }
 
 /// Returns the table of the starting rows.
+///
+/// # Errors
+/// `AllocError`: out of memory.
 pub fn starting_table<'a>(alloc: Global, lines: &[Line<'a>]) -> Result<Table<'a>, AllocError>
     ensures { IfOk result (λ t. HoldsTable t.values.entries (starts_in (views lines.now))) }
 {
@@ -45,6 +48,9 @@ fn put_start<'a>(table: &mut Table<'a>, line: &Line<'a>) -> Result<(), AllocErro
 }
 
 /// Sets the value at a row key. `None` removes the row.
+///
+/// # Errors
+/// `AllocError`: out of memory. The table is unchanged.
 pub fn put<'a>(
     table: &mut Table<'a>,
     row_key: RowKey<'a>,

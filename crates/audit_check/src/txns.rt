@@ -22,7 +22,10 @@ struct Standings {
     gone: Vec<bool>,
 }
 
-/// Finds the first line whose transaction cannot do what it says.
+/// Checks that the transaction of each line can do what the line says.
+///
+/// # Errors
+/// `No` with `Txn` names the first line whose transaction cannot. `OutOfMemory`: out of memory.
 pub fn check_txns(alloc: Global, lines: &[Line]) -> Result<(), AuditError>
     requires { length lines.now < 2 ^ 32 }
     ensures { Finds Txn wrong_txn (views lines.now) result }

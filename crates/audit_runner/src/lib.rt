@@ -22,6 +22,9 @@ use std::alloc::{AllocError, Global};
 
 /// Returns `audit yes` if the text is a printed run whose order reproduces its reads and its final rows. Otherwise returns the
 /// first wrong line and why.
+///
+/// # Errors
+/// `AllocError`: out of memory.
 pub fn run_audit(alloc: Global, text: &[u8]) -> Result<Output, AllocError>
     requires { length text.now ≤ MOST_BYTES }
     ensures shown { IfOk result (λ o. o ≡ audited text.now) }

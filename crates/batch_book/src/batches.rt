@@ -63,7 +63,10 @@ impl Batches {
         }
     }
 
-    /// Makes room for n joins. It shows the same batches as before, also on `Err`.
+    /// Makes room for n joins.
+    ///
+    /// # Errors
+    /// `AllocError`: out of memory. The batches are unchanged.
     pub fn reserve(&mut self, n: usize) -> Result<(), AllocError>
         ensures batches { (S : Setup) (H : List Event) (n : ℕ) → BatchesOf self.old S H n → BatchesOf self.new S H n }
         ensures size { self.new.size ≡ self.old.size }

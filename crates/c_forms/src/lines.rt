@@ -11,6 +11,9 @@ use std::alloc::{AllocError, Global};
 use teb_rules::names::{Cause, Cell, NameBook, Node, Reply, Session};
 
 /// Returns the line of a reply to a session, or `None` if the form is that of no reply, or has a node or a table without a name.
+///
+/// # Errors
+/// `AllocError`: out of memory.
 pub fn line_of(
     alloc: Global,
     names: &NameBook,

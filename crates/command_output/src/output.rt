@@ -40,6 +40,9 @@ impl Output {
     }
 
     /// Returns a line alone, without a run.
+    ///
+    /// # Errors
+    /// `AllocError`: out of memory.
     pub fn line(alloc: Global, status: u8, line: &str) -> Result<Output, AllocError>
         requires { IsShowable status }
         ensures { IfOk result (λ o. o ≡ line_alone status line.now) }
@@ -50,6 +53,9 @@ impl Output {
     }
 
     /// Returns a line alone, without a run: a front, a number, a space and a word.
+    ///
+    /// # Errors
+    /// `AllocError`: out of memory.
     pub fn numbered_line(
         alloc: Global,
         status: u8,

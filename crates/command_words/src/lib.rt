@@ -28,6 +28,9 @@ use std::env::Args;
 use std::io::{self, ErrorKind};
 
 /// Returns the words after the program's name, or none if one of them is not text.
+///
+/// # Errors
+/// `AllocError`: out of memory.
 pub fn words_of(alloc: Global, args: io::Result<Args>) -> Result<Vec<String>, AllocError>
     ensures { IfOk result (λ words. words.items ≡ words_in args) }
 {

@@ -75,6 +75,11 @@ impl<C: Chains, D: Disk> Durable<C, D> {
     }
 
     /// Answers a request as the engine does. A commit is on the disk before it is answered: every crash from then on leaves it.
+    ///
+    /// # Errors
+    /// `Stopped` if the disk failed at an earlier commit; else `Full` if it has no room for the commit, or `OutOfMemory`. With
+    /// each, nothing was asked and nothing changed. `DiskFault` if a call of the disk fails: the events have the commit, the
+    /// disk may keep it or not, and the store is stopped.
     pub fn ask(
         &mut self,
         alloc: Global,

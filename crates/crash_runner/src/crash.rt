@@ -16,6 +16,9 @@ use std::alloc::{AllocError, Global};
 
 /// Replays an input on a disk in memory that fails from its call `stop` on, 0 for none. Then it recovers what is left, and shows
 /// the replies that were given and the rows.
+///
+/// # Errors
+/// `AllocError`: out of memory. A call of the disk that fails is no error: the run stops there.
 pub fn run_crash(alloc: Global, stop: u32, input: Input) -> Result<Output, AllocError>
     requires { length input.lines ≤ MOST_LINES }
     ensures shown { IfOk result (IsCrash stop input) }

@@ -48,6 +48,9 @@ pub type Bank = EngineStore<PooledChains, FileDisk>;
 /// What answers requests: the bank, or the bank while its commits wait.
 pub trait Answers {
     /// Answers a request of the one session.
+    ///
+    /// # Errors
+    /// Those of the store's `ask`.
     fn answer(&mut self, alloc: Global, request: Request) -> Result<Reply, AskError>;
 }
 
@@ -98,6 +101,9 @@ fn setup(alloc: Global) -> Result<Setup, Stopped>
 }
 
 /// Opens the bank that a disk has, or a new one on an empty disk.
+///
+/// # Errors
+/// `NotOpened`, with the reason. `BadTree` if the tree text is not read, also if memory runs out. The disk is dropped.
 pub fn open_bank(alloc: Global, disk: FileDisk) -> Result<Bank, Stopped> {
     match EngineStore::open(alloc, disk, setup(alloc)?, PooledChains::new(alloc)) {
         Ok(bank) => Ok(bank),
@@ -106,6 +112,9 @@ pub fn open_bank(alloc: Global, disk: FileDisk) -> Result<Bank, Stopped> {
 }
 
 /// Makes the next transfer, in the next epoch if this one is full, and returns its number. The transfer is then in the file.
+///
+/// # Errors
+/// Those of `transfer` and `next_epoch`. The bank is dropped.
 pub fn move_money(alloc: Global, mut bank: Bank) -> Result<(Bank, i64), Stopped> {
     match transfer(alloc, &mut bank) {
         Ok(number) => return Ok((bank, number)),
@@ -118,6 +127,9 @@ pub fn move_money(alloc: Global, mut bank: Bank) -> Result<(Bank, i64), Stopped>
 }
 
 /// Returns the bank with a checkpoint of all rows, and room for further transactions.
+///
+/// # Errors
+/// `NoEpoch`, with the reason. `BadTree` if the tree text is not read, also if memory runs out. The bank is dropped.
 pub fn next_epoch(alloc: Global, bank: Bank) -> Result<Bank, Stopped> {
     match bank.next_epoch(alloc, setup(alloc)?, PooledChains::new(alloc)) {
         Ok((bank, _ended)) => Ok(bank),
@@ -125,7 +137,11 @@ pub fn next_epoch(alloc: Global, bank: Bank) -> Result<Bank, Stopped> {
     }
 }
 
-/// Makes one transaction. After an error no transaction is open.
+/// Makes one transaction, and returns the number of the transfer.
+///
+/// # Errors
+/// `Full` if the engine, or its part of the file, is full. `Refused`, `InTheWay` or `NoAnswer` if a request is not granted.
+/// The transaction is ended, unless that fails too.
 pub fn transfer(alloc: Global, bank: &mut impl Answers) -> Result<i64, Stopped> {
     let moved = steps(alloc, bank);
     if moved.is_err() {

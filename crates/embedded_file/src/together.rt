@@ -17,6 +17,10 @@ impl Answers for BankGroup {
 }
 
 /// Makes at most `most` transfers, in the next epoch if this one is full, and returns their numbers. They are in the file then.
+///
+/// # Errors
+/// Those of `transfer` and `next_epoch`, and `OutOfMemory`. `Full` if the next epoch takes no transfer either. The bank is
+/// dropped.
 pub fn move_money_together(
     alloc: Global,
     bank: Bank,

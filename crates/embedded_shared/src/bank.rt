@@ -28,6 +28,9 @@ pub fn tree(alloc: Global) -> Result<Vec<u8>, AllocError> {
 
 /// Prints how many transfers there are, and the sum of all accounts, which no transfer changes; if it is loud, also the transfers of each
 /// session and the balance of each account.
+///
+/// # Errors
+/// Out of memory, or the output is not written. The first lines may be printed.
 pub fn report(
     rt: &impl Print,
     alloc: Global,

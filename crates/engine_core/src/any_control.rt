@@ -27,6 +27,9 @@ pub enum AnyControl {
 }
 
 /// Returns a control for each node of the tree, for an empty history.
+///
+/// # Errors
+/// `AllocError`: out of memory.
 pub fn controls_of(alloc: Global, facts: &Facts) -> Result<Vec<AnyControl>, AllocError>
     requires { IsAtStart facts.now }
     ensures { IfOk result (λ v. StandAll any_node_number any_stands v.items (setup_of facts.now) (events_of facts.now)) }

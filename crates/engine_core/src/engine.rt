@@ -61,6 +61,9 @@ impl<C: Chains> Model for Engine<C> {
 
 impl<C: Chains> Engine<C> {
     /// Returns the engine of a store with this setup, over chains with no version. Nothing has happened yet.
+    ///
+    /// # Errors
+    /// `AllocError`: out of memory. The setup and the chains are dropped.
     pub fn new(alloc: Global, setup: Setup, chains: C) -> Result<Self, AllocError>
         requires setup { IsWhole (setup_view setup) }
         requires chains { (x : Cell) → C.lists chains x ≡ [] }

@@ -16,7 +16,11 @@ use tree_toml::read_tree;
 use version_chain::Chains;
 
 /// Returns the replies to the requests, and what is lent before the last two and at the end. The requests follow a transaction of
-/// `before` events. The versions refuse room once, after `served` calls, or never. Fails if room should be refused and is not.
+/// `before` events. The versions refuse room once, after `served` calls, or never.
+///
+/// # Errors
+/// `Memory`: out of memory. `Changed` if a refused call changes what is lent, or if room is refused and should not be, or the
+/// reverse.
 pub fn engine_text(alloc: Global, before: usize, served: Option<usize>) -> Result<String, Trouble> {
     let mut engine = trial_engine(alloc, served)?;
     read_before(&mut engine, before)?;
@@ -40,6 +44,9 @@ pub fn engine_text(alloc: Global, before: usize, served: Option<usize>) -> Resul
 const MOST_EVENTS: usize = 8192;
 
 /// Returns an engine that was asked nothing yet.
+///
+/// # Errors
+/// `Memory`: out of memory.
 pub fn trial_engine(
     alloc: Global,
     served: Option<usize>,
@@ -54,6 +61,9 @@ pub fn trial_engine(
 }
 
 /// Returns how many events an engine writes until it asks the versions for room a second time.
+///
+/// # Errors
+/// `Memory`: out of memory. `Changed` if it does not ask a second time.
 pub fn events_of_room(alloc: Global) -> Result<usize, Trouble> {
     let mut engine = trial_engine(alloc, None)?;
     answer(&mut engine, Request::Begin(SALE))?;

@@ -25,7 +25,11 @@ pub const HALL_EVENTS: usize = 5;
 type Tried = Refusing<PooledChains>;
 
 /// Returns the entries of a closed hall, and what its engine lends. The requests follow a transaction of `before` events. The
-/// versions refuse room once, after `served` calls, or never. Fails if room should be refused and is not.
+/// versions refuse room once, after `served` calls, or never.
+///
+/// # Errors
+/// `Memory`: out of memory. `Changed` if a refused call changes what its pass knows, or if room is refused and should not be,
+/// or the reverse.
 pub fn hall_text<R: Wait>(
     rt: &R,
     alloc: Global,

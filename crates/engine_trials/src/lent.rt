@@ -30,6 +30,9 @@ const CELLS: [Cell; 4] = [SOLD, ORDERED, PLACED, REPORTED];
 const FIRST_REPORT: Txn = Txn(6);
 
 /// Returns the history, the versions, the book, and what each control lends.
+///
+/// # Errors
+/// `AllocError`: out of memory.
 pub fn lent<C: Chains>(alloc: Global, engine: &Engine<C>) -> Result<String, AllocError> {
     let mut text = String::new(alloc);
     for event in engine.history().events() {

@@ -12,7 +12,10 @@ use version_chain::Chains;
 /// The most calls that ask for room: two may be refused, one by the chains and one by the system.
 pub const ATTEMPTS: u8 = 3;
 
-/// Makes room for an answer. A refused call leaves everything that is lent unchanged.
+/// Makes room for an answer, and tries that a refused call leaves everything that is lent unchanged.
+///
+/// # Errors
+/// `Changed` if a refused call does not. `Memory`: out of memory, or the room is refused at each attempt.
 pub fn make_room<C: Chains>(alloc: Global, engine: &mut Engine<Refusing<C>>) -> Result<(), Trouble>
     ensures { OnOk result (IsTrue engine.new.ready) }
 {

@@ -114,6 +114,9 @@ fn checkpoint<D: Disk>(alloc: Global, journal: &mut EpochJournal<D>, count: u32)
 }
 
 /// Opens a disk, and takes the steps of a life until a call of the disk fails.
+///
+/// # Errors
+/// A `Fail`: out of memory for a record.
 pub fn live<D: Disk + Drop>(alloc: Global, disk: D) -> Result<Lived<D>, Fail> {
     let mut acknowledged = 0;
     let mut journal = match EpochJournal::open(alloc, disk, &LABEL, &rows(0)) {

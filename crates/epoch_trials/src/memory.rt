@@ -6,6 +6,9 @@ use std::alloc::Global;
 use std::test::Fail;
 
 /// Returns the result of a life on a disk in memory that fails from the call `stop` on; 0 names no call.
+///
+/// # Errors
+/// That of `live`.
 pub fn live_until(alloc: Global, stop: u32) -> Result<Lived<MemDisk>, Fail> {
     live(alloc, MemDisk::with_capacity(alloc, CAPACITY, stop))
 }

@@ -16,7 +16,10 @@ use session_server::{Hall, Pass};
 use std::alloc::{AllocError, Global};
 use teb_rules::names::SESSIONS;
 
-/// Closes the hall, and prints its run.
+/// Closes the hall, and returns its printed run and its entries.
+///
+/// # Errors
+/// `AllocError`: out of memory. The engine and the entries are dropped.
 pub fn closed(
     alloc: Global,
     hall: Hall<PooledChains>,

@@ -12,6 +12,9 @@ use printed_run::printed_run;
 use std::alloc::{AllocError, Global};
 
 /// Returns the printed run of an engine, with status 0, and its history.
+///
+/// # Errors
+/// `AllocError`: out of memory. The engine is dropped.
 pub fn output_of(alloc: Global, engine: Engine<PooledChains>) -> Result<Output, AllocError>
     requires { IsNamedBy engine.store engine.names }
     ensures run { IfOk result (λ o. (o.status ≡ 0) × (o.history ≡ Some engine.events)

@@ -40,6 +40,9 @@ enum Runner {
 
 /// Serves the script of each session on this number of workers, among which the sessions are divided beforehand. The hook `gate`
 /// is called before and after each request.
+///
+/// # Errors
+/// `AllocError`: out of memory. The run is dropped.
 pub fn serve_by_threads<R: Threads + Wait + Sync, G: Gate + Sync>(
     rt: &R,
     alloc: Global,
@@ -56,6 +59,9 @@ pub fn serve_by_threads<R: Threads + Wait + Sync, G: Gate + Sync>(
 
 /// Serves the script of each session on this number of workers, which take the sessions from a queue. The hook `gate` is called
 /// before and after each request.
+///
+/// # Errors
+/// `AllocError`: out of memory. The run is dropped.
 pub fn serve_by_pool<R: Threads + Wait + Sync, G: Gate + Sync>(
     rt: &R,
     alloc: Global,

@@ -57,7 +57,10 @@ impl HoldBook {
         }
     }
 
-    /// Makes room for n accesses. The holds are unchanged, also on `Err`.
+    /// Makes room for n accesses.
+    ///
+    /// # Errors
+    /// `AllocError`: out of memory. The holds are unchanged.
     #[inline(always)]
     pub fn reserve(&mut self, n: usize) -> Result<(), AllocError>
         ensures shown { (x : Cell) → shown self.new x ≡ shown self.old x }

@@ -12,6 +12,9 @@ use teb_io::{ReadError, Source, read_all};
 use tree_toml::read_tree;
 
 /// Reads a source to its end, if it has at most `MOST_BYTES` bytes.
+///
+/// # Errors
+/// Those of `read_all`, with `MOST_BYTES` as its limit.
 pub fn read_bytes<S: Source>(alloc: Global, source: &mut S) -> Result<Vec<u8>, ReadError>
     ensures bytes { AreReadFrom (S.left source.old) (S.left source.new) result }
     ensures fault { IsErrOf result ReadError.ReadFault → Rose (S.faults source.old) (S.faults source.new) }

@@ -10,7 +10,10 @@ use script_text::LineWhy;
 use std::alloc::{AllocError, Global};
 use tree_toml::{TreeText, put_fault};
 
-/// Returns the status and the line of a fault. A read that failed has no line.
+/// Returns the output for a fault: its status and its line. A read that failed has no line.
+///
+/// # Errors
+/// `AllocError`: out of memory, or the fault is `OutOfMemory`.
 pub fn refusal(alloc: Global, error: &InputError) -> Result<Output, AllocError>
     requires { error.now ≢ InputError.ReadFault }
     ensures { IfOk result (λ o. o ≡ refusal error.now) }

@@ -69,7 +69,10 @@ impl LineReader {
         }
     }
 
-    /// Puts a text before the bytes that are not yet taken. Out of memory, they stay as they were.
+    /// Puts a text before the bytes that are not yet taken.
+    ///
+    /// # Errors
+    /// `AllocError`: out of memory. The bytes are unchanged.
     pub fn put_ahead(&mut self, alloc: Global, text: &[u8]) -> Result<(), AllocError>
         ensures ok { OnOk result (self.new ≡ text.now ++ self.old) }
         ensures err { OnErr result (self.new ≡ self.old) }

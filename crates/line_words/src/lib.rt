@@ -37,6 +37,9 @@ pub enum Word<'a> {
 }
 
 /// Appends a line of words.
+///
+/// # Errors
+/// `AllocError`: out of memory. A part of the line may be appended.
 #[tactic(auto, using(crate::proofs::Joined::one_line))]
 pub fn put_line(out: &mut Vec<u8>, first: &Word, rest: &[Word]) -> Result<(), AllocError>
     ensures { OnOk result (out.new.items ≡ out.old.items ++ line_text (word_text first.now ∷ map word_text rest.now)) }
@@ -48,6 +51,9 @@ pub fn put_line(out: &mut Vec<u8>, first: &Word, rest: &[Word]) -> Result<(), Al
 }
 
 /// Appends words, each after a space.
+///
+/// # Errors
+/// `AllocError`: out of memory. A part of the words may be appended.
 pub fn put_spaced(out: &mut Vec<u8>, words: &[Word]) -> Result<(), AllocError>
     ensures { OnOk result (out.new.items ≡ out.old.items ++ spaced (map word_text words.now)) }
 {
@@ -58,6 +64,9 @@ pub fn put_spaced(out: &mut Vec<u8>, words: &[Word]) -> Result<(), AllocError>
 }
 
 /// Appends a space and a word.
+///
+/// # Errors
+/// `AllocError`: out of memory. The space and a part of the word may be appended.
 pub fn put_next(out: &mut Vec<u8>, word: &Word) -> Result<(), AllocError>
     ensures { OnOk result (out.new.items ≡ out.old.items ++ (codes " " ++ word_text word.now)) }
 {
@@ -66,6 +75,9 @@ pub fn put_next(out: &mut Vec<u8>, word: &Word) -> Result<(), AllocError>
 }
 
 /// Appends a word.
+///
+/// # Errors
+/// `AllocError`: out of memory. A part of the word may be appended.
 pub fn put_word(out: &mut Vec<u8>, word: &Word) -> Result<(), AllocError>
     ensures { OnOk result (out.new.items ≡ out.old.items ++ word_text word.now) }
 {

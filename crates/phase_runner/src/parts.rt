@@ -7,6 +7,9 @@ use script_text::{MOST_BYTES, split_input};
 use std::alloc::{AllocError, Global};
 
 /// Returns the bytes between the lines that are exactly `%%`, in order: one part more than there are such lines.
+///
+/// # Errors
+/// `AllocError`: out of memory.
 pub fn parts(alloc: Global, bytes: &[u8]) -> Result<Vec<&[u8]>, AllocError>
     requires { length bytes.now ≤ MOST_BYTES }
     ensures parts { IfOk result (λ v. AreParts bytes.now (texts v.items)) }

@@ -23,6 +23,9 @@ use tree_switch::{Phases, SwitchError};
 use version_chain::Chains;
 
 /// Returns the first phase, after the task has run in it over chains with no version. Its report is appended.
+///
+/// # Errors
+/// `AllocError`: out of memory. The text is unchanged, and what has run is dropped.
 pub fn first_phase<C: Chains>(
     alloc: Global,
     chains: C,
@@ -41,6 +44,9 @@ pub fn first_phase<C: Chains>(
 
 /// Returns the phases with one more, after the task has run in it over the tables that the previous phase left. Its report is
 /// appended.
+///
+/// # Errors
+/// `AllocError`: out of memory. The text is unchanged, and all phases are dropped.
 pub fn next_phase<C: Chains>(
     alloc: Global,
     chains: C,

@@ -9,7 +9,10 @@ use command_output::status::BAD_PHASE;
 use input_reader::{InputError, refusal};
 use std::alloc::{AllocError, Global};
 
-/// Returns the status and the line of a fault.
+/// Returns the output for a fault: its status and its line.
+///
+/// # Errors
+/// `AllocError`: out of memory, or the fault is `BadInput` with `OutOfMemory`.
 pub fn phase_refusal(alloc: Global, error: &PhaseError) -> Result<Output, AllocError>
     requires { error.now ≢ PhaseError.BadInput InputError.ReadFault }
     ensures { IfOk result (λ o. o ≡ spec_phase_refusal error.now) }

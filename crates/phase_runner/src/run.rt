@@ -16,7 +16,10 @@ use std::alloc::{AllocError, Global};
 use std::collections::VecDeque;
 
 /// Runs the phases of an input, each over the tables that the previous one left, and returns their reports. If the input has a
-/// fault, no phase runs, and the fault is returned.
+/// fault, no phase runs, and the output names the fault.
+///
+/// # Errors
+/// `AllocError`: out of memory.
 pub fn run_phases(alloc: Global, bytes: &[u8]) -> Result<Output, AllocError>
     requires { length bytes.now ≤ MOST_BYTES }
     ensures shown { IfOk result (λ o. ArePhases bytes.now o) }

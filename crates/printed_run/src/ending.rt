@@ -11,10 +11,10 @@ use serial_order::{order, tables};
 use std::alloc::{AllocError, Global};
 use version_chain::Chains;
 
-/// Appends the serial order and the final tables. After an error some of it is appended.
+/// Appends the serial order and the final tables.
 ///
 /// # Errors
-/// Out of memory.
+/// `AllocError`: out of memory. Nothing is appended.
 pub fn put_ending<C: Chains>(
     alloc: Global,
     out: &mut Vec<u8>,

@@ -31,6 +31,9 @@ impl Model for NodeRanks {
 
 impl NodeRanks {
     /// Returns the ranks at a node, over the profiles of the types under it.
+    ///
+    /// # Errors
+    /// `AllocError`: out of memory.
     pub fn of(
         alloc: Global,
         node: Node,

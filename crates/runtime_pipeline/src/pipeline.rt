@@ -38,6 +38,9 @@ pub struct Pipeline {
 
 impl Pipeline {
     /// Returns the control of a pipeline node for an empty history.
+    ///
+    /// # Errors
+    /// `AllocError`: out of memory.
     pub fn new(alloc: Global, node: Node, facts: &Facts) -> Result<Self, AllocError>
         requires kind { (row (setup_of facts.now).tree node.0).control ≡ IsPipeline }
         requires empty { events_of facts.now ≡ [] }

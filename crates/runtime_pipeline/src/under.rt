@@ -13,6 +13,9 @@ use store_setup::tree::Tree;
 use teb_rules::names::{Kind, Node};
 
 /// Returns the types of the leaves under a node, ascending.
+///
+/// # Errors
+/// `AllocError`: out of memory.
 pub fn kinds_under(alloc: Global, node: Node, tree: &Tree) -> Result<Vec<Kind>, AllocError>
     ensures { IfOk result (λ kinds. kind_numbers kinds.items ≡ filter (stands_under tree.now.rows node.0) (below tree.now.types)) }
 {

@@ -19,6 +19,9 @@ use version_chain::Chains;
 
 /// Asks the sessions in turns, each along its script, until all are done. The replies go to the log. Returns the engine after the
 /// run.
+///
+/// # Errors
+/// `AllocError`: out of memory. The engine is dropped. The log may have some of the replies.
 pub fn in_turns<G: Log>(
     alloc: Global,
     input: Input,

@@ -13,6 +13,9 @@ use std::alloc::{AllocError, Global};
 
 /// Asks each line once, in order, and then End for each session that holds a transaction. The replies go to the log. Returns the
 /// engine after the run.
+///
+/// # Errors
+/// `AllocError`: out of memory. The engine is dropped. The log may have some of the replies.
 pub fn in_order<L: Log>(
     alloc: Global,
     input: Input,

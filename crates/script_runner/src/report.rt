@@ -18,6 +18,9 @@ use teb_rules::names::NameBook;
 use version_chain::Chains;
 
 /// Returns the replies, the serial order and the final tables. The text of the replies becomes that of the report.
+///
+/// # Errors
+/// `AllocError`: out of memory. The replies are dropped, and the engine is only read.
 pub fn report_of<C: Chains>(
     alloc: Global,
     engine: &Engine<C>,
@@ -33,7 +36,10 @@ pub fn report_of<C: Chains>(
     Ok(text)
 }
 
-/// Appends the replies. After an error some of them are appended.
+/// Appends the replies.
+///
+/// # Errors
+/// `AllocError`: out of memory for one of them. Those before it are appended.
 pub fn put_replies(out: &mut Vec<u8>, names: &NameBook, log: &[Answered]) -> Result<(), AllocError>
     requires { All (λ a. ReplyNamed names.now a.reply) log.now }
     ensures { OnOk result (out.new.items ≡ out.old.items ++ flat_map (reply_text names.now) log.now) }

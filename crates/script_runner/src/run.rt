@@ -15,6 +15,9 @@ use input_reader::Input;
 use std::alloc::{AllocError, Global};
 
 /// Runs an input as one interleaving of its sessions, and returns the report.
+///
+/// # Errors
+/// `AllocError`: out of memory.
 pub fn run_replay(alloc: Global, mut input: Input) -> Result<Output, AllocError>
     ensures shown { IfOk result (IsRun IsReplay IsReport input) }
     ensures serialized { IfOk result (λ o. IsSerialized (λ m. input.setup ≡ m) o.history) }
@@ -26,6 +29,9 @@ pub fn run_replay(alloc: Global, mut input: Input) -> Result<Output, AllocError>
 }
 
 /// Runs one script for each session, in turns, and returns the report.
+///
+/// # Errors
+/// `AllocError`: out of memory.
 pub fn run_turns(alloc: Global, mut input: Input) -> Result<Output, AllocError>
     ensures shown { IfOk result (IsRun AreTurns IsReport input) }
     ensures serialized { IfOk result (λ o. IsSerialized (λ m. input.setup ≡ m) o.history) }

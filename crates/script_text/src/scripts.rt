@@ -62,6 +62,9 @@ impl Scripts {
 }
 
 /// Returns the script of each session that has a line, with its lines in order.
+///
+/// # Errors
+/// `AllocError`: out of memory.
 pub fn scripts_of(alloc: Global, lines: &[Line]) -> Result<Scripts, AllocError>
     ensures { IfOk result (λ scripts. scripts ≡ scripts_of lines.now) }
 {

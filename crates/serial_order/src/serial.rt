@@ -30,6 +30,9 @@ pub(crate) struct Entry {
 }
 
 /// Returns the committed transactions in the serial order, which serializes the history.
+///
+/// # Errors
+/// `AllocError`: out of memory. The engine is only read.
 pub fn order<C: Chains>(alloc: Global, engine: &Engine<C>) -> Result<Vec<Txn>, AllocError>
     ensures order { IfOk result (λ v. txn_numbers v.items ≡ serial_order engine.now.store.setup engine.now.events) }
     ensures serializes { IfOk result (λ v. Serializes engine.now.store engine.now.events (txn_numbers v.items)) }

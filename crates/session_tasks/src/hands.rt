@@ -7,6 +7,9 @@ use std::alloc::{AllocError, Global};
 use version_chain::Chains;
 
 /// Returns this number of hands, each without a task.
+///
+/// # Errors
+/// `AllocError`: out of memory.
 pub fn empty_hands<C: Chains>(
     alloc: Global,
     workers: usize,

@@ -12,6 +12,9 @@ use std::alloc::AllocError;
 use teb_rules::names::{Names, Txn};
 
 /// Appends that a line is bad, and why.
+///
+/// # Errors
+/// `AllocError`: out of memory. A part of the line may be appended.
 pub fn put_bad(out: &mut Vec<u8>, number: u64, why: LineWhy) -> Result<(), AllocError>
     ensures { OnOk result (out.new.items ≡ out.old.items ++ bad_text number why) }
 {
@@ -27,6 +30,9 @@ pub fn put_bad(out: &mut Vec<u8>, number: u64, why: LineWhy) -> Result<(), Alloc
 }
 
 /// Appends that a line can't be obeyed, and why.
+///
+/// # Errors
+/// `AllocError`: out of memory. A part of the line may be appended.
 pub fn put_unable(out: &mut Vec<u8>, number: u64, why: Unable) -> Result<(), AllocError>
     ensures { OnOk result (out.new.items ≡ out.old.items ++ unable_text number why) }
 {
@@ -65,6 +71,9 @@ fn why_text(why: LineWhy) -> &'static str
 }
 
 /// Appends the number of the epoch, of its commits, and of the bytes that are left.
+///
+/// # Errors
+/// `AllocError`: out of memory. A part of the line may be appended.
 pub fn put_epoch(out: &mut Vec<u8>, epoch: u64, commits: u64, left: u64) -> Result<(), AllocError>
     ensures { OnOk result (out.new.items ≡ out.old.items ++ epoch_text epoch commits left) }
 {
@@ -82,6 +91,9 @@ pub fn put_epoch(out: &mut Vec<u8>, epoch: u64, commits: u64, left: u64) -> Resu
 }
 
 /// Appends what became of a checkpoint.
+///
+/// # Errors
+/// `AllocError`: out of memory. A part of the line may be appended.
 pub fn put_checkpoint(out: &mut Vec<u8>, checkpoint: Checkpoint) -> Result<(), AllocError>
     ensures { OnOk result (out.new.items ≡ out.old.items ++ checkpoint_text checkpoint) }
 {
@@ -98,6 +110,9 @@ pub fn put_checkpoint(out: &mut Vec<u8>, checkpoint: Checkpoint) -> Result<(), A
 }
 
 /// Appends the serial order.
+///
+/// # Errors
+/// `AllocError`: out of memory. A part of the line may be appended.
 #[tactic(auto, using(line_words::proofs::Joined::one_line))]
 pub fn put_order(out: &mut Vec<u8>, order: &[Txn]) -> Result<(), AllocError>
     ensures { OnOk result (out.new.items ≡ out.old.items ++ order_text order.now) }
@@ -119,6 +134,9 @@ fn put_txns(out: &mut Vec<u8>, txns: &[Txn]) -> Result<(), AllocError>
 }
 
 /// Appends the names of tables, and the end.
+///
+/// # Errors
+/// `AllocError`: out of memory. A part of the text may be appended.
 pub fn put_tables(out: &mut Vec<u8>, names: &Names) -> Result<(), AllocError>
     ensures { OnOk result (out.new.items ≡ out.old.items ++ names_text (codes "table") names.now) }
 {
@@ -126,6 +144,9 @@ pub fn put_tables(out: &mut Vec<u8>, names: &Names) -> Result<(), AllocError>
 }
 
 /// Appends the names of types, and the end.
+///
+/// # Errors
+/// `AllocError`: out of memory. A part of the text may be appended.
 pub fn put_types(out: &mut Vec<u8>, names: &Names) -> Result<(), AllocError>
     ensures { OnOk result (out.new.items ≡ out.old.items ++ names_text (codes "type") names.now) }
 {
@@ -143,6 +164,9 @@ fn put_names(out: &mut Vec<u8>, word: &str, names: &Names) -> Result<(), AllocEr
 }
 
 /// Appends the lines that there are.
+///
+/// # Errors
+/// `AllocError`: out of memory. Nothing is appended.
 pub fn put_help(out: &mut Vec<u8>) -> Result<(), AllocError>
     ensures { OnOk result (out.new.items ≡ out.old.items ++ help_text) }
 {

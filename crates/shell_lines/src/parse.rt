@@ -14,6 +14,9 @@ use std::alloc::{AllocError, Global};
 use teb_rules::names::NameBook;
 
 /// Returns what a line asks, without its line feed. `format` is that of the tree, as in scripts.
+///
+/// # Errors
+/// `AllocError`: out of memory. A bad line is no error: it is a `ShellLine`.
 pub fn parse_line(
     alloc: Global,
     names: &NameBook,
@@ -31,6 +34,9 @@ pub fn parse_line(
 }
 
 /// Returns the second word of a line, without its line feed; nothing if it has none.
+///
+/// # Errors
+/// `AllocError`: out of memory.
 pub fn second_word(alloc: Global, text: &[u8]) -> Result<Vec<u8>, AllocError>
     ensures { IfOk result (λ word. word.items ≡ second_word (line_words text.now)) }
 {

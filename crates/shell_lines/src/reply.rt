@@ -21,6 +21,9 @@ pub enum StoreReply {
 }
 
 /// Appends the line of what a session is answered.
+///
+/// # Errors
+/// `AllocError`: out of memory. A part of the line may be appended.
 pub fn put_reply(
     out: &mut Vec<u8>,
     names: &NameBook,

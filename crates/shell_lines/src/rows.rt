@@ -11,6 +11,9 @@ use std::alloc::{AllocError, Global};
 use teb_rules::names::{Cell, NameBook, Table};
 
 /// Appends those of the rows that are asked for, and the end.
+///
+/// # Errors
+/// `AllocError`: out of memory. A part of the text may be appended.
 pub fn put_rows(
     alloc: Global,
     out: &mut Vec<u8>,

@@ -15,6 +15,9 @@ use teb_rules::history::{Event, History};
 use teb_rules::names::{NameBook, Names, SESSIONS, Session, Txn};
 
 /// Appends the prompt, which shows each session that holds a transaction, and the transaction.
+///
+/// # Errors
+/// `AllocError`: out of memory. A part of the prompt may be appended.
 pub fn put_prompt(out: &mut Vec<u8>, history: &History) -> Result<(), AllocError>
     ensures { OnOk result (out.new.items ≡ out.old.items ++ prompt_text history.now.events) }
 {
@@ -44,6 +47,9 @@ fn put_held_word(out: &mut Vec<u8>, history: &History, session: Session) -> Resu
 }
 
 /// Appends each session that holds a transaction, with what the transaction has done, and the end.
+///
+/// # Errors
+/// `AllocError`: out of memory. A part of the text may be appended.
 pub fn put_sessions(
     out: &mut Vec<u8>,
     names: &NameBook,

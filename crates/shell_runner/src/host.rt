@@ -14,6 +14,9 @@ pub enum FileError {
 /// The files that a line can name, and the place of the prompt. Nothing is claimed of either.
 pub trait Host {
     /// Reads the text of a file.
+    ///
+    /// # Errors
+    /// `Unreadable` if there is no such file or a read fails; `TooLong` if it is longer than the host reads; `OutOfMemory`.
     fn read_file(&mut self, alloc: Global, name: &[u8]) -> Result<Vec<u8>, FileError>;
 
     /// True if the lines come from someone who sees a prompt.

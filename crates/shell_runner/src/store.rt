@@ -64,11 +64,17 @@ pub trait ShellStore: Drop {
         ensures { result ≡ (stored self.now).left };
 
     /// Returns the committed rows, in ascending order of cells.
+    ///
+    /// # Errors
+    /// `AllocError`: out of memory. The store is only read.
     fn rows(&self, alloc: Global) -> Result<Vec<(Cell, i64)>, AllocError>
         ensures rows { IfOk result (λ v. AreFinalRows (stored self.now).store (stored self.now).events v.items) }
         ensures named { IfOk result (λ v. RowsNamed (stored self.now).names v.items) };
 
     /// Returns the committed transactions in the serial order.
+    ///
+    /// # Errors
+    /// `AllocError`: out of memory. The store is only read.
     fn order(&self, alloc: Global) -> Result<Vec<Txn>, AllocError>
         ensures { IfOk result (λ v. map (λ t. t.0) v.items ≡ serial_order (stored self.now).store.setup (stored self.now).events) };
 

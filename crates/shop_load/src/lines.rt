@@ -24,6 +24,9 @@ const MOST_LINES: usize = 5;
 
 /// Returns the lines of `size` transactions of eight sessions, generated from a seed: reports, new orders, payments and
 /// deliveries on the tables stock 0, orders 1 and accounts 2, keys 1 to 16. The lines are numbered from 1.
+///
+/// # Errors
+/// `AllocError`: out of memory.
 pub fn loaded_lines(alloc: Global, number: u32, size: u32) -> Result<Vec<Line>, AllocError>
     requires number { number < 2 ^ 31 }
     requires size { size ≤ 2000 }

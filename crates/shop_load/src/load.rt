@@ -16,6 +16,9 @@ use script_runner::{in_turns, output_of};
 use std::alloc::{AllocError, Global};
 
 /// Runs `size` transactions that are generated from a seed, and returns the summary.
+///
+/// # Errors
+/// `AllocError`: out of memory.
 pub fn run_load(alloc: Global, number: u32, size: u32) -> Result<Output, AllocError>
     requires number { number < 2 ^ 31 }
     requires size { size ≤ 2000 }
@@ -29,6 +32,9 @@ pub fn run_load(alloc: Global, number: u32, size: u32) -> Result<Output, AllocEr
 }
 
 /// Returns the shop, and the lines of `size` transactions that are generated from a seed.
+///
+/// # Errors
+/// `AllocError`: out of memory.
 #[tactic(auto, using(crate::proofs::LoadedSessions::loaded_sessions))]
 pub fn load_input(alloc: Global, number: u32, size: u32) -> Result<Input, AllocError>
     requires number { number < 2 ^ 31 }

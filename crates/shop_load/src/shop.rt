@@ -28,6 +28,9 @@ pub(crate) const KEYS: u32 = 16;
 const BATCH: u16 = 64;
 
 /// Returns the setup of the shop.
+///
+/// # Errors
+/// `AllocError`: out of memory.
 pub fn shop_setup(alloc: Global) -> Result<Setup, AllocError>
     ensures setup { IfOk result (λ s. setup_view s ≡ spec_shop) }
     ensures whole { IfOk result (λ s. IsWhole (setup_view s)) }

@@ -17,6 +17,9 @@ use version_chain::Chains;
 
 /// Returns what was asked for, the counts of transactions and requests, and the sums of the final tables. It costs one pass over
 /// the history and over the final rows.
+///
+/// # Errors
+/// `AllocError`: out of memory.
 pub fn summary_of<C: Chains>(
     alloc: Global,
     number: u32,

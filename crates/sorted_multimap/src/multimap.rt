@@ -91,7 +91,10 @@ impl<K: Key, V: Copy> Multimap<K, V> {
         }
     }
 
-    /// Makes room for n more values, whatever their keys. The values are unchanged, also on `Err`.
+    /// Makes room for n more values, whatever their keys.
+    ///
+    /// # Errors
+    /// `AllocError`: out of memory. The values are unchanged.
     pub fn reserve(&mut self, n: usize) -> Result<(), AllocError>
         ensures entries { self.new.entries ≡ self.old.entries }
         ensures room { OnOk result (n ≤ self.new.spare) }

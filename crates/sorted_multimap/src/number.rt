@@ -22,8 +22,11 @@ impl Numbered for Txn {
     }
 }
 
-/// Returns the place of the value with a number among values that ascend by number, or the place where it would go. It costs a look at the
-/// last value if that has the number or a lesser one, and otherwise a binary search.
+/// Returns the place of the value with this number, among values that ascend by number. It costs a look at the last value if that has the
+/// number or a lesser one, and otherwise a binary search.
+///
+/// # Errors
+/// If no value has the number: the place at which it would be inserted.
 pub fn find_number<V: Numbered>(values: &[V], number: u32) -> Result<usize, usize>
     requires { IsAscendingBy V.numbered_by values.now }
     ensures { result ≡ place_of V.numbered_by values.now number }

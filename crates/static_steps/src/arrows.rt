@@ -14,6 +14,9 @@ use store_setup::profile::Profile;
 use teb_rules::names::{Kind, Table};
 
 /// Returns for each table below `tables` the tables that some profile of `under` leads to from it.
+///
+/// # Errors
+/// `AllocError`: out of memory.
 pub fn arrows(
     alloc: Global,
     profiles: &[Profile],

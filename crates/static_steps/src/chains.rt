@@ -9,6 +9,9 @@ use std::alloc::{AllocError, Global};
 use std::mem;
 
 /// Returns for each table the length of the longest chain that ends in it. The rows say which table reaches which.
+///
+/// # Errors
+/// `AllocError`: out of memory.
 pub fn longest_chains(alloc: Global, rows: &[TableSet]) -> Result<Vec<u8>, AllocError>
     requires { length rows.now ≤ 64 }
     ensures { IfOk result (λ chains. (length chains.items ≡ length rows.now)

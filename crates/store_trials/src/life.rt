@@ -28,7 +28,10 @@ pub struct Lived {
     pub answered: i64,
 }
 
-/// Opens the store of the plain tree on a disk, or returns the disk.
+/// Opens the store of the plain tree on a disk. The inner result is the disk if it is not opened.
+///
+/// # Errors
+/// A `Fail` if the plain tree is not read: out of memory.
 pub fn open(alloc: Global, disk: MemDisk) -> Result<Result<TrialStore, MemDisk>, Fail> {
     let setup = read_tree(alloc, &[])?;
     Ok(
@@ -52,6 +55,9 @@ fn ask_alone(alloc: Global, store: &mut TrialStore, request: Request) -> Result<
 }
 
 /// Returns the committed value.
+///
+/// # Errors
+/// Those of `EngineStore::ask`.
 pub fn value(alloc: Global, store: &mut TrialStore) -> Result<Option<i64>, AskError> {
     match ask_alone(alloc, store, Request::Read(CELL))? {
         Reply::Value(value) => Ok(value),
@@ -60,6 +66,9 @@ pub fn value(alloc: Global, store: &mut TrialStore) -> Result<Option<i64>, AskEr
 }
 
 /// Commits the values 1, 2 and 3, the last one in the next epoch, until a call fails.
+///
+/// # Errors
+/// A `Fail` if the plain tree is not read, or if the store is stopped before its next epoch.
 pub fn live(alloc: Global, disk: MemDisk) -> Result<Lived, Fail> {
     let mut store = match open(alloc, disk)? {
         Ok(store) => store,

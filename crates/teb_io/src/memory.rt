@@ -107,8 +107,11 @@ impl Model for MemSink {
 }
 
 impl MemSink {
-    /// Returns a sink with room for `room` bytes, all of which is taken here. It fails at the calls whose numbers stand in `fail`,
-    /// counted from 1, and where its room is full.
+    /// Returns a sink with room for `room` bytes, all of which is taken here. It fails at the calls whose numbers are in `fail`,
+    /// counted from 1, and if its room is full.
+    ///
+    /// # Errors
+    /// `AllocError`: out of memory.
     pub fn new(alloc: Global, room: usize, fail: Vec<u32>) -> Result<MemSink, AllocError>
         ensures { IfOk result (λ s. s ≡ record { written = []; room = room; fail = fail.items; calls = 0; faults = 0 }) }
     {

@@ -17,8 +17,10 @@ pub trait Sink {
     /// How often a write has failed.
     ghost faults: { Self → ℕ };
 
-    /// Takes a prefix of `bytes`, and answers its length, which is 0 only where there are no bytes. A write that fails
-    /// takes no byte.
+    /// Takes a prefix of `bytes`, and returns its length, which is 0 only if there are no bytes.
+    ///
+    /// # Errors
+    /// `Failed`: the write failed, and took no byte.
     fn write(&mut self, bytes: &[u8]) -> Result<usize, Failed>
         ensures bound { WritesAtMost result bytes.now }
         ensures some { IfOk result (λ n. 0 < length bytes.now → 0 < n) }
@@ -31,7 +33,10 @@ pub trait Sink {
 #[error("the output could not be written")]
 pub struct WriteFault;
 
-/// Writes all the bytes, in as many writes as it takes. After a fault the sink has a prefix of them, and not all.
+/// Writes all the bytes, in as many writes as it takes.
+///
+/// # Errors
+/// `WriteFault`: a write failed. The sink has a prefix of the bytes, and not all.
 pub fn write_whole<K: Sink>(out: &mut K, bytes: &[u8]) -> Result<(), WriteFault>
     ensures ok { OnOk result (Appends (K.written out.old) (K.written out.new) bytes.now) }
     ensures fault { OnErr result (AppendsFront (K.written out.old) (K.written out.new) bytes.now) }

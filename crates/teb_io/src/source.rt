@@ -18,8 +18,11 @@ pub trait Source {
     /// How often a read has failed.
     ghost faults: { Self → ℕ };
 
-    /// Reads the next bytes to the front of `buf`, and answers how many. None are read only at the end, or into a `buf`
-    /// without room. A read that fails takes no byte, and one that succeeds counts no fault.
+    /// Reads the next bytes to the front of `buf`, and returns how many. None are read only at the end, or into a `buf`
+    /// without room. A read that succeeds counts no fault.
+    ///
+    /// # Errors
+    /// `Failed`: the read failed, and took no byte.
     fn read(&mut self, buf: &mut [u8]) -> Result<usize, Failed>
         ensures bound { ReadsAtMost result buf.new }
         ensures bytes { ReadConsumes (left self.old) (left self.new) result buf.new }

@@ -44,6 +44,9 @@ pub struct Stamps {
 
 impl Stamps {
     /// Returns the control of a timestamp node for an empty history. Takes no memory.
+    ///
+    /// # Errors
+    /// No error is returned, since it takes no memory.
     pub fn new(alloc: Global, node: Node, facts: &Facts) -> Result<Self, AllocError>
         requires kind { (row (setup_of facts.now).tree node.0).control ≡ IsTimestamp }
         requires empty { events_of facts.now ≡ [] }

@@ -24,6 +24,9 @@ const SPACE: &str = "    ";
 const MOST_LEVELS: u8 = 8;
 
 /// Appends the drawing of a tree: a line for each node, with its name, its control, its parameters and the names of its types.
+///
+/// # Errors
+/// `AllocError`: out of memory. A part of the drawing may be appended.
 pub fn put_tree(
     alloc: Global,
     out: &mut Vec<u8>,

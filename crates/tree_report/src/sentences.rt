@@ -25,6 +25,9 @@ const ALONE: &str = "an abort takes no other transaction with it";
 
 /// Writes what a tree guarantees, and what it does not, into an empty text: the sentences that hold for every tree, those that
 /// depend on its shape, one for each type, and the end.
+///
+/// # Errors
+/// `AllocError`: out of memory. A part of the text may be written.
 pub fn put_guarantees(out: &mut Vec<u8>, types: &Names, tree: &Tree) -> Result<(), AllocError>
     requires { out.old.items ≡ [] }
     ensures { OnOk result (AreGuarantees types.now tree.now.rows out.new.items) }

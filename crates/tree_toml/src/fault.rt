@@ -117,7 +117,10 @@ impl Place {
     }
 }
 
-/// Returns what was read at a place; a fault becomes one of that place.
+/// Returns what was read at a place.
+///
+/// # Errors
+/// `Field` with the place, and the reason that `read` has.
 pub fn at<T>(place: Place, read: Result<T, FieldWhy>) -> Result<T, TreeText>
     ensures { result ≡ spec_at place read }
 {

@@ -27,6 +27,9 @@ pub fn found<'a>(table: &'a Table, key: &str) -> Option<&'a Value>
 }
 
 /// Returns the text at a key, or `None` if the key is missing.
+///
+/// # Errors
+/// `Form` if the value at the key is no text.
 pub fn text_at<'a>(table: &'a Table, key: &str) -> Result<Option<&'a str>, FieldWhy>
     ensures { Gives option_copied result (spec_text_at key.now (table_view table.now)) }
 {
@@ -40,6 +43,9 @@ pub fn text_at<'a>(table: &'a Table, key: &str) -> Result<Option<&'a str>, Field
 }
 
 /// Returns the integer at a key, or `None` if the key is missing.
+///
+/// # Errors
+/// `Form` if the value at the key is no integer.
 pub fn integer_at(table: &Table, key: &str) -> Result<Option<i64>, FieldWhy>
     ensures { result ≡ spec_integer_at key.now (table_view table.now) }
 {
@@ -64,6 +70,9 @@ pub fn as_list(value: &Value) -> Option<&[Value]>
 }
 
 /// Returns the array at a key, or `None` if the key is missing.
+///
+/// # Errors
+/// `Form` if the value at the key is no array.
 pub fn array_at<'a>(table: &'a Table, key: &str) -> Result<Option<&'a [Value]>, FieldWhy>
     ensures { Gives (option_map (λ a. map view a.now)) result (spec_array_at key.now (table_view table.now)) }
 {
@@ -76,7 +85,10 @@ pub fn array_at<'a>(table: &'a Table, key: &str) -> Result<Option<&'a [Value]>, 
     }
 }
 
-/// Returns the value, or `Missing` if it is not given.
+/// Returns the value that is given.
+///
+/// # Errors
+/// `Missing` if none is given.
 pub fn required<T>(given: Option<T>) -> Result<T, FieldWhy>
     ensures { result ≡ spec_required given }
 {
@@ -86,7 +98,10 @@ pub fn required<T>(given: Option<T>) -> Result<T, FieldWhy>
     }
 }
 
-/// Returns the integer, or `Range` if it is not between the two limits.
+/// Returns an integer that is between the two limits.
+///
+/// # Errors
+/// `Range` if it is not.
 pub fn within(low: u32, high: u32, value: i64) -> Result<u32, FieldWhy>
     ensures value { result ≡ spec_within low high value }
     ensures bound { IfOk result (λ n. n ≤ high) }
@@ -98,6 +113,9 @@ pub fn within(low: u32, high: u32, value: i64) -> Result<u32, FieldWhy>
 }
 
 /// Returns the number of a name.
+///
+/// # Errors
+/// `NoSuch` if it is none of the names.
 pub fn numbered(names: &Names, name: &str) -> Result<u8, FieldWhy>
     ensures { result ≡ spec_numbered names.now name.now }
 {

@@ -15,6 +15,10 @@ pub const MOST: usize = 64;
 
 /// Returns the entries of the list at this key of the top: `least` to `most` of them, each of the list's form. A list that may be
 /// empty may be left out.
+///
+/// # Errors
+/// `Field` at the key: `Form` if its value is no array, `Missing` if it is left out and `least` is not 0, `Many` if the array has
+/// fewer than `least` or more than `most` entries. Else `Field` with `Form` at the first entry of another form.
 pub fn list_at<'a>(
     list: ListName,
     word: &str,
@@ -76,6 +80,9 @@ fn is_entry(list: ListName, value: &Value) -> bool
 }
 
 /// Returns an entry that is a table of TOML with known keys only.
+///
+/// # Errors
+/// `Field` at the entry: `Form` if it is no table, `Unknown` if it has another key.
 pub fn table_entry(
     list: ListName,
     format: u8,
@@ -93,6 +100,9 @@ pub fn table_entry(
 }
 
 /// Returns an entry that is a table of TOML.
+///
+/// # Errors
+/// `Field` at the place, with `Form`, if it is none.
 pub fn entry(place: Place, value: &Value) -> Result<&Table, TreeText>
     ensures { Gives (λ t. table_view t.now) result (spec_at place (formed (as_table (view value.now)))) }
 {

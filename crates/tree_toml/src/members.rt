@@ -14,6 +14,10 @@ use teb_rules::names::{Kind, Names};
 use toml::{Table, Value};
 
 /// Returns the types of a node: none if they are not given.
+///
+/// # Errors
+/// `Field` at the place: `Form` if `types` is no array of texts, `NoSuch` if a text is the name of no type. `OutOfMemory`: out of
+/// memory.
 pub fn read_members(
     alloc: Global,
     place: Place,

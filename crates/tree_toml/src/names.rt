@@ -12,6 +12,10 @@ use teb_rules::names::{Names, is_name};
 use toml::Table;
 
 /// Appends a new name.
+///
+/// # Errors
+/// `Field` at the place: `Name` if it is not a valid name, `Repeated` if it was given before. `OutOfMemory`: out of memory. The
+/// names are unchanged.
 #[tactic(auto, unfolding(crate::specs::Names::named))]
 pub fn add_name(names: &mut Names, place: Place, name: &str) -> Result<(), TreeText>
     requires { length names.old < 255 }
@@ -28,6 +32,10 @@ pub fn add_name(names: &mut Names, place: Place, name: &str) -> Result<(), TreeT
 }
 
 /// Appends the name of an entry.
+///
+/// # Errors
+/// `Field` at the place: `Form` if the name is no text, `Missing` if there is none, or the reason of `add_name`. `OutOfMemory`:
+/// out of memory. The names are unchanged.
 #[tactic(auto, unfolding(crate::specs::Types::name_in))]
 pub fn add_entry_name(names: &mut Names, place: Place, entry: &Table) -> Result<(), TreeText>
     requires { length names.old < 255 }

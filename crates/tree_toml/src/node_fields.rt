@@ -15,6 +15,9 @@ use toml::Table;
 const USUAL_BATCH: u16 = 64;
 
 /// Returns the control of a node.
+///
+/// # Errors
+/// `Form` if it is no text, `Missing` if it is not given, `NoSuch` if it is no word for a control.
 pub fn read_control(entry: &Table) -> Result<ControlKind, FieldWhy>
     ensures { result ≡ control_of (table_view entry.now) }
 {
@@ -33,7 +36,10 @@ fn control_named(word: &str) -> Result<ControlKind, FieldWhy>
     }
 }
 
-/// Refuses `batch` on all but timestamp and snapshot nodes, and `commit` on all but timestamp nodes.
+/// Checks that only timestamp and snapshot nodes have the key `batch`, and only timestamp nodes the key `commit`.
+///
+/// # Errors
+/// `Unknown` if another node has one of them.
 pub fn own_keys(control: ControlKind, entry: &Table) -> Result<(), FieldWhy>
     ensures { result ≡ spec_own_keys control (table_view entry.now) }
 {
@@ -63,6 +69,9 @@ pub fn has_key(entry: &Table, key: &str) -> bool
 }
 
 /// Returns the parent, or `None` if it is not given.
+///
+/// # Errors
+/// `Form` if it is no text, `NoSuch` if it is the name of no node.
 pub fn read_parent(nodes: &Names, entry: &Table) -> Result<Option<Node>, FieldWhy>
     ensures { Gives parent_number result (parent_of nodes.now (table_view entry.now)) }
 {
@@ -73,6 +82,9 @@ pub fn read_parent(nodes: &Names, entry: &Table) -> Result<Option<Node>, FieldWh
 }
 
 /// Returns how many transactions a batch admits.
+///
+/// # Errors
+/// `Form` if it is no integer, `Range` if it is not 1 to 1,024.
 pub fn read_batch(entry: &Table) -> Result<u16, FieldWhy>
     ensures { result ≡ batch_of (table_view entry.now) }
 {
@@ -83,6 +95,9 @@ pub fn read_batch(entry: &Table) -> Result<u16, FieldWhy>
 }
 
 /// Returns whether commits are ordered.
+///
+/// # Errors
+/// `Form` if it is no text, `NoSuch` if it is neither `free` nor `ordered`.
 pub fn read_commit(entry: &Table) -> Result<bool, FieldWhy>
     ensures { result ≡ commit_of (table_view entry.now) }
 {

@@ -26,7 +26,11 @@ pub struct Nodes {
     pub rows: Vec<NodeRow>,
 }
 
-/// Returns the nodes.
+/// Returns the nodes: their names, and their rows.
+///
+/// # Errors
+/// `Field`, the first fault: of the list, then of the keys and the names of all nodes, then of the other values of each node.
+/// `OutOfMemory`: out of memory.
 pub fn read_nodes(
     alloc: Global,
     format: u8,

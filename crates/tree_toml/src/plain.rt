@@ -16,6 +16,9 @@ use store_setup::tree::{NodeRow, Tree};
 use teb_rules::names::{ControlKind, Kind, NameBook, Names, Rows, Table};
 
 /// Returns the plain setup.
+///
+/// # Errors
+/// `OutOfMemory`, and no other: out of memory.
 pub fn plain(alloc: Global) -> Result<Setup, TreeText>
     ensures { Answers setup_view result (Ok spec_plain) }
 {

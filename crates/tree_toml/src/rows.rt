@@ -14,6 +14,9 @@ use teb_rules::names::{Cell, MOST_ROWS, Names, Rows, Table as TableNumber};
 use toml::{Table, Value};
 
 /// Returns the starting rows. They may be in any order: n of them cost n log n.
+///
+/// # Errors
+/// `Field`, the first fault: of the list, then of each row; a cell that has a row is `Repeated`. `OutOfMemory`: out of memory.
 pub fn read_rows(alloc: Global, tables: &Names, table: &Table) -> Result<Rows, TreeText>
     ensures { Answers (λ rows. rows) result (rows_of tables.now (table_view table.now)) }
 {

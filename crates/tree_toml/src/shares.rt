@@ -23,6 +23,10 @@ pub struct Share {
 const WHOLE: Share = Share { part: 0, parts: 1 };
 
 /// Returns the share of a node. Both of its keys are given, or neither.
+///
+/// # Errors
+/// `Field` at `of`, or else at `part`: `Form` if it is no integer, `Missing` if only the other is given, `Range` if it is outside
+/// its limits.
 pub fn read_share(index: u32, entry: &Table) -> Result<Share, TreeText>
     ensures { Gives share_view result (share_of index (table_view entry.now)) }
 {

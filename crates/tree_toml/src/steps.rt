@@ -19,6 +19,9 @@ use toml::{Table, Value};
 const MOST_STEPS: usize = 16;
 
 /// Returns the profile of a type. If no steps are given, it has one with all tables.
+///
+/// # Errors
+/// `Field` at the place: `Form`, `Many`, `NoSuch` or `Repeated`, the first fault of the steps. `OutOfMemory`: out of memory.
 pub fn read_profile(
     alloc: Global,
     place: Place,

@@ -14,6 +14,9 @@ use teb_rules::names::Names;
 use toml::{Table, Value};
 
 /// Returns the format, 1 to 3.
+///
+/// # Errors
+/// `Form` if it is no integer, `Missing` if it is not given, `Range` if it is not 1 to 3.
 pub fn read_format(table: &Table) -> Result<u8, FieldWhy>
     ensures { result ≡ format_of (table_view table.now) }
 {
@@ -22,6 +25,9 @@ pub fn read_format(table: &Table) -> Result<u8, FieldWhy>
 }
 
 /// Returns the names of the tables.
+///
+/// # Errors
+/// `Field`, the first fault: of the list, then of each name. `OutOfMemory`: out of memory.
 pub fn read_tables(alloc: Global, table: &Table) -> Result<Names, TreeText>
     ensures tables { Answers (λ names. names) result (tables_of (table_view table.now)) }
     ensures few { IfOk result (λ names. (0 < length names) × (length names ≤ 64)) }

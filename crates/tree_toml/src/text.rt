@@ -15,7 +15,10 @@ pub enum Piece<'a> {
     Number(u32),
 }
 
-/// Appends the line of a fault. Out of memory, it appends nothing. `OutOfMemory` has no line.
+/// Appends the line of a fault. `OutOfMemory` has no line.
+///
+/// # Errors
+/// `AllocError`: out of memory. Nothing is appended.
 pub fn put_fault(out: &mut Vec<u8>, fault: &TreeText) -> Result<(), AllocError>
     ensures { out.new.items ≡ (if is_ok result then out.old.items ++ fault_text fault.now else out.old.items) }
 {

@@ -11,6 +11,9 @@ use std::alloc::Global;
 use store_setup::tree::{NodeRow, Tree, TreeError};
 
 /// Returns the tree of these rows, for this number of types.
+///
+/// # Errors
+/// `Shape` or `Misplaced`: the first fault of the rows, as `Tree::build` says. `OutOfMemory`: out of memory.
 pub fn grow(alloc: Global, rows: Vec<NodeRow>, types: u8) -> Result<Tree, TreeText>
     requires rows { AreRows types (rows_of rows.items) }
     requires some { 0 < length rows.items }

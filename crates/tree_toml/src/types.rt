@@ -23,7 +23,10 @@ pub struct Types {
     pub profiles: Vec<Profile>,
 }
 
-/// Returns the types.
+/// Returns the types: their names, and their profiles.
+///
+/// # Errors
+/// `Field`, the first fault: of the list, then of each type. `OutOfMemory`: out of memory.
 pub fn read_types(alloc: Global, tables: &Names, table: &Table) -> Result<Types, TreeText>
     requires { 0 < length tables.now }
     ensures types { Answers types_view result (types_of tables.now (table_view table.now)) }

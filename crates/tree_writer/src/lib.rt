@@ -45,6 +45,9 @@ use store_setup::profile::Profile;
 use teb_rules::names::{Cell, NameBook, Names};
 
 /// Appends the tree text of a setup in a format, with the given rows as its starting rows.
+///
+/// # Errors
+/// `AllocError`: out of memory. A part of the text may be appended.
 pub fn put_tree_text(
     out: &mut Vec<u8>,
     format: u8,

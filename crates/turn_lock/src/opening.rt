@@ -12,7 +12,8 @@ use std::snapshot::Snapshot;
 impl<T: Member> Turn<T> {
     /// Returns a turn with this value, and its first seat, which has the owners 1 to `owners` and 2^45 turns.
     ///
-    /// At `Err` there was no memory, and the value comes back.
+    /// # Errors
+    /// The value, unchanged, if memory runs out.
     pub fn new(alloc: Global, value: T, notes: u32, owners: u8) -> Result<(Turn<T>, SeatOf<T>), T>
         requires empty { (T.entries value ≡ []) × ((i : ℕ) → T.note value i ≡ 0) }
         requires owners { 1 ≤ owners }

@@ -15,6 +15,9 @@ use teb_rules::names::{Request, SESSIONS, Session};
 use version_chain::Chains;
 
 /// Asks End for each session that holds a transaction, in ascending number, and logs the replies.
+///
+/// # Errors
+/// `AllocError`: out of memory. The first of them may have been asked, with their replies in the log.
 #[tactic(auto, using(crate::proofs::lemmas::replay::Holders::ends_of_holders))]
 pub fn end_sessions<C: Chains, L: Log>(
     alloc: Global,
@@ -49,6 +52,9 @@ fn ask_ends<C: Chains, L: Log>(
 }
 
 /// Returns the sessions that hold a transaction, in ascending number.
+///
+/// # Errors
+/// `AllocError`: out of memory.
 pub fn holding_sessions(alloc: Global, history: &History) -> Result<Vec<Session>, AllocError>
     ensures { IfOk result (λ v. v.items ≡ holders_from SESSIONS 1 history.now.events) }
 {

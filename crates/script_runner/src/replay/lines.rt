@@ -18,6 +18,9 @@ const NEAR: usize = 64;
 
 /// Asks each line, and logs the replies. First it makes room for one event a line, so that the list of events need not move.
 /// Scans add more events than that: `Engine::ready` makes any room that is missing, and no clause speaks of it.
+///
+/// # Errors
+/// `AllocError`: out of memory. The first lines may have been asked, with their replies in the log.
 pub fn ask_lines<C: Chains, L: Log>(
     engine: &mut Engine<C>,
     lines: &[Line],
@@ -79,6 +82,9 @@ fn ask_each<C: Chains, L: Log>(
 }
 
 /// Asks one request, and logs the reply.
+///
+/// # Errors
+/// `AllocError`: out of memory. Nothing was asked or logged.
 pub fn ask<C: Chains, L: Log>(
     engine: &mut Engine<C>,
     session: Session,

@@ -17,7 +17,7 @@ use version_chain::Chains;
 /// added to the log, each with its session.
 ///
 /// # Errors
-/// Out of memory. Some of the lines have been asked.
+/// Out of memory. The first of these may have been asked, with their replies in the log.
 #[tactic(auto, using(crate::proofs::lemmas::replay::Logged::history_append, crate::proofs::lemmas::replay::Logged::log_append))]
 pub fn replay<C: Chains, L: Log>(
     alloc: Global,

@@ -43,6 +43,9 @@ impl<'a> Ring<'a> {
     ghost use Rattle.teb_rules.specs.declared.names.Reply.{Reply};
 
     /// Returns a ring with each session at the first line of its script. The lowest-numbered is looked at first.
+    ///
+    /// # Errors
+    /// `AllocError`: out of memory.
     pub fn new(alloc: Global, scripts: &'a Scripts) -> Result<Ring<'a>, AllocError>
         ensures { IfOk result (λ r. round_of r ≡ seated (scripts_on scripts.now)) }
     {

@@ -31,6 +31,9 @@ pub enum Verb {
 }
 
 /// Returns what a line asks: nothing if it is blank or a comment. Its first words are left in `words`.
+///
+/// # Errors
+/// The first fault: `Session`, then `Verb`, then `Count`, and then `Name` or `Number` at the first of the words that follow.
 #[tactic(auto, using(crate::proofs::LineWords::line_of_first))]
 pub fn parse_line<'a>(
     names: &BookAtHand,

@@ -49,6 +49,9 @@ impl<'a> NamesAtHand<'a> {
     }
 
     /// Returns the number of a name, or 255 if it is not in the list.
+    ///
+    /// # Errors
+    /// `Name` if the word is not a name.
     #[inline(always)]
     #[tactic(auto, unfolding(crate::specs::Grammar::name_at))]
     pub fn number(&self, word: &[u8]) -> Result<u8, LineWhy>

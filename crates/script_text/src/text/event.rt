@@ -13,7 +13,10 @@ use std::alloc::AllocError;
 use teb_rules::history::Event;
 use teb_rules::names::{NameBook, Txn};
 
-/// Appends the line of an event. Out of memory, it appends nothing.
+/// Appends the line of an event.
+///
+/// # Errors
+/// `AllocError`: out of memory. Nothing is appended.
 #[tactic(auto, using(crate::proofs::Wholes::kept, crate::proofs::Wholes::taken_back))]
 pub fn put_event(out: &mut Vec<u8>, names: &NameBook, event: &Event) -> Result<(), AllocError>
     requires { EventNamed names.now event.now }

@@ -12,7 +12,10 @@ use short_reply::ShortReply;
 use std::alloc::AllocError;
 use teb_rules::names::{Cause, NameBook, Node, Refusal, Reply, ScanList, Session, Txn};
 
-/// Appends the line of a reply. Out of memory, it appends nothing.
+/// Appends the line of a reply.
+///
+/// # Errors
+/// `AllocError`: out of memory. Nothing is appended.
 pub fn put_reply(
     out: &mut Vec<u8>,
     names: &NameBook,
@@ -43,7 +46,10 @@ fn put_whole_scan(out: &mut Vec<u8>, session: Session, values: &ScanList) -> Res
     whole(out, start, written)
 }
 
-/// Appends the line of a reply without the values of a scan. Out of memory, it appends nothing.
+/// Appends the line of a reply without the values of a scan.
+///
+/// # Errors
+/// `AllocError`: out of memory. Nothing is appended.
 #[tactic(auto, using(crate::proofs::Wholes::kept, crate::proofs::Wholes::taken_back))]
 pub fn put_short_reply(
     out: &mut Vec<u8>,
@@ -229,6 +235,9 @@ fn put_session(out: &mut Vec<u8>, session: Session) -> Result<(), AllocError>
 }
 
 /// Appends the words of a cause, each after a space.
+///
+/// # Errors
+/// `AllocError`: out of memory. A part of the words may be appended.
 pub fn put_cause(out: &mut Vec<u8>, names: &NameBook, cause: &Cause) -> Result<(), AllocError>
     requires { CauseNamed names.now cause.now }
     ensures { Puts out.old.items (spaced (cause_words names.now cause.now)) out.new.items result }

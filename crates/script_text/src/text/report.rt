@@ -13,7 +13,10 @@ use super::word::{Word, put_feed, put_line, put_spaced, put_text, table, whole};
 use std::alloc::AllocError;
 use teb_rules::names::{Cell, NameBook, Rows, Txn};
 
-/// Appends a report: the serial order, the final rows, and the end. Out of memory, it appends nothing.
+/// Appends a report: the serial order, the final rows, and the end.
+///
+/// # Errors
+/// `AllocError`: out of memory. Nothing is appended.
 #[tactic(auto, using(crate::proofs::Wholes::kept, crate::proofs::Wholes::taken_back))]
 pub fn put_report(
     out: &mut Vec<u8>,
@@ -30,7 +33,10 @@ pub fn put_report(
     whole(out, start, written)
 }
 
-/// Appends how many commits are recovered, the rows that they leave, and the end. Out of memory, it appends nothing.
+/// Appends how many commits are recovered, the rows that they leave, and the end.
+///
+/// # Errors
+/// `AllocError`: out of memory. Nothing is appended.
 #[tactic(auto, using(crate::proofs::Wholes::kept, crate::proofs::Wholes::taken_back))]
 pub fn put_recovered(
     out: &mut Vec<u8>,
@@ -47,7 +53,10 @@ pub fn put_recovered(
     whole(out, start, written)
 }
 
-/// Appends a line for each starting row. Out of memory, it appends nothing.
+/// Appends a line for each starting row.
+///
+/// # Errors
+/// `AllocError`: out of memory. Nothing is appended.
 #[tactic(auto, using(crate::proofs::Wholes::kept, crate::proofs::Wholes::taken_back))]
 pub fn put_starts(out: &mut Vec<u8>, names: &NameBook, rows: &Rows) -> Result<(), AllocError>
     requires { RowsNamed names.now rows.now }

@@ -44,6 +44,9 @@ pub fn kind<'a>(names: &'a NameBook, kind: Kind) -> Word<'a>
 }
 
 /// Appends words, each after a space.
+///
+/// # Errors
+/// `AllocError`: out of memory. A part of the words may be appended.
 pub fn put_words(out: &mut Vec<u8>, words: &[Word]) -> Result<(), AllocError>
     ensures { Puts out.old.items (spaced_words words.now) out.new.items result }
 {
@@ -54,6 +57,9 @@ pub fn put_words(out: &mut Vec<u8>, words: &[Word]) -> Result<(), AllocError>
 }
 
 /// Appends the words of a cell, each after a space: the name of its table, and its key.
+///
+/// # Errors
+/// `AllocError`: out of memory. A part of the words may be appended.
 pub fn put_cell(out: &mut Vec<u8>, names: &NameBook, cell: Cell) -> Result<(), AllocError>
     requires { CellNamed names.now cell }
     ensures { Puts out.old.items (spaced (cell_words names.now cell)) out.new.items result }
@@ -62,6 +68,9 @@ pub fn put_cell(out: &mut Vec<u8>, names: &NameBook, cell: Cell) -> Result<(), A
 }
 
 /// Appends a line: a first word, and others after it.
+///
+/// # Errors
+/// `AllocError`: out of memory. A part of the line may be appended.
 pub fn put_line<'a>(
     out: &mut Vec<u8>,
     first: &'a str,
@@ -75,6 +84,9 @@ pub fn put_line<'a>(
 }
 
 /// Appends a space and a word.
+///
+/// # Errors
+/// `AllocError`: out of memory. The space may be appended, and no more.
 pub fn put_spaced(out: &mut Vec<u8>, word: &Word) -> Result<(), AllocError>
     ensures { Puts out.old.items (codes " " ++ word_text word.now) out.new.items result }
 {
@@ -98,6 +110,9 @@ pub fn put_spaced(out: &mut Vec<u8>, word: &Word) -> Result<(), AllocError>
 }
 
 /// Appends a line feed.
+///
+/// # Errors
+/// `AllocError`: out of memory. Nothing is appended.
 pub fn put_feed(out: &mut Vec<u8>) -> Result<(), AllocError>
     ensures { Puts out.old.items (codes "\n") out.new.items result }
 {
@@ -106,13 +121,19 @@ pub fn put_feed(out: &mut Vec<u8>) -> Result<(), AllocError>
 }
 
 /// Appends a text.
+///
+/// # Errors
+/// `AllocError`: out of memory. Nothing is appended.
 pub fn put_text(out: &mut Vec<u8>, text: &str) -> Result<(), AllocError>
     ensures { Puts out.old.items text.now out.new.items result }
 {
     out.extend_from_slice(text.as_bytes())
 }
 
-/// Passes on the result of writing a text that began at this length, and removes what was written if memory ran out.
+/// Returns the result of writing a text that began at this length.
+///
+/// # Errors
+/// `AllocError` if the writing ran out of memory. What it wrote is removed.
 pub fn whole(
     out: &mut Vec<u8>,
     start: usize,

@@ -29,8 +29,10 @@ impl Model for Profile {
 }
 
 impl Profile {
-    /// Returns the profile of these steps, or their first fault: `Steps`, and then that of the first step at fault.
-    /// Takes no memory.
+    /// Returns the profile of these steps. Takes no memory.
+    ///
+    /// # Errors
+    /// The first fault of the steps: `Steps`, or else that of the first step at fault. The steps are dropped.
     pub fn new(steps: Vec<Vec<Table>>) -> Result<Profile, StepsError>
         ensures { let asked = steps_of steps.items in
             MatchResult result (λ profile. (steps_fault asked ≡ None) × (profile ≡ asked)) (λ fault. steps_fault asked ≡ Some fault) }

@@ -10,7 +10,11 @@ use crate::tree::placement::check_placement;
 use crate::tree::shape::check_shape;
 use crate::tree::{NodeRow, TreeError};
 
-/// Returns the first fault as an error: of the shape of each node, of a type without its leaves, or of the placement of each node.
+/// Tests whether the rows are those of a tree for `types` types: the shape of each node, then the leaves of each type, then the
+/// placement of each node.
+///
+/// # Errors
+/// The first fault, as `Tree::build` says. `OutOfMemory` is never returned.
 #[tactic(auto, unfolding(teb_rules::specs::Accepted::tree_fault))]
 pub fn check(rows: &[NodeRow], types: u8) -> Result<(), TreeError>
     requires { length rows.now ≤ 64 }

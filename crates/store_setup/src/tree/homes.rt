@@ -68,6 +68,9 @@ fn count_homes(rows: &[NodeRow], k: Kind) -> u8
 }
 
 /// Returns for each type below `types`, the paths to its leaves in order of their parts.
+///
+/// # Errors
+/// `AllocError`: out of memory.
 pub fn all_paths(alloc: Global, rows: &[NodeRow], types: u8) -> Result<Vec<Vec<Path>>, AllocError>
     requires few { length rows.now ≤ 64 }
     requires parts { All (λ r. 0 < r.of) rows.now }

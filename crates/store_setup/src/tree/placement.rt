@@ -11,7 +11,10 @@ use crate::tree::way::some_above;
 use crate::tree::{NodeRow, Rule, TreeError};
 use teb_rules::names::{ControlKind, Node};
 
-/// Returns an error at the first node that is at a place which a rule forbids.
+/// Tests whether each node is at a place that the rules allow.
+///
+/// # Errors
+/// `Misplaced` at the first node that is at a place which a rule forbids.
 pub fn check_placement(rows: &[NodeRow]) -> Result<(), TreeError>
     requires { length rows.now ≤ 64 }
     ensures { Finds result (first_at (placement_fault (rows_of rows.now)) (below (length rows.now))) }

@@ -13,7 +13,10 @@ use crate::tree::way::count_above;
 use crate::tree::{NodeRow, ShapeWhy, TreeError};
 use teb_rules::names::{Kind, Node};
 
-/// Returns an error at the first node whose shape is wrong.
+/// Tests whether each node has the shape of a node of a tree.
+///
+/// # Errors
+/// `Shape` at the first node whose shape is wrong.
 pub fn check_shape(rows: &[NodeRow]) -> Result<(), TreeError>
     requires { length rows.now ≤ 64 }
     ensures { Finds result (first_at (shape_fault (rows_of rows.now)) (below (length rows.now))) }

@@ -66,6 +66,9 @@ pub fn some_above(rows: &[NodeRow], at: Node, most: u8, below: Node, control: Co
 }
 
 /// Appends the way down to n to the nodes of `way`, taking at most `most` parents.
+///
+/// # Errors
+/// `AllocError`: out of memory. Some nodes of the way may be appended then.
 pub fn push_way(rows: &[NodeRow], n: Node, most: u8, way: &mut Vec<Node>) -> Result<(), AllocError>
     ensures { OnOk result ((lower : List ℕ) → node_numbers way.new.items ++ lower ≡ node_numbers way.old.items ++ climb (rows_of rows.now) most n.0 lower) }
 {

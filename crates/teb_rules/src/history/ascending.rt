@@ -12,8 +12,11 @@ use crate::history::standing::Standing;
 use crate::names::Txn;
 use crate::vectors::{put_in, take_out};
 
-/// Returns the place of t's standing, or the place where it would go. It costs one look if the transactions are numbered from 1 without a
-/// gap and t is one of them, or if t is above all of them; otherwise a binary search.
+/// Returns the place of t's standing. It costs one look if the transactions are numbered from 1 without a gap and t is one of them, or if
+/// t is above all of them; otherwise a binary search.
+///
+/// # Errors
+/// If t has no standing: the place at which it would be inserted.
 #[inline(always)]
 pub fn find_standing(standings: &[Standing], t: Txn) -> Result<usize, usize>
     requires { IsAscendingBy standing_number standings.now }
@@ -129,7 +132,10 @@ pub fn remove_txn(txns: &mut Vec<Txn>, t: Txn)
     }
 }
 
-/// Returns the index of a transaction among ascending ones (`Ok`), or the index at which it would be inserted (`Err`).
+/// Returns the index of a transaction among ascending ones.
+///
+/// # Errors
+/// If t is not among them: the index at which it would be inserted.
 pub fn find_txn(txns: &[Txn], t: Txn) -> Result<usize, usize>
     ensures within { IsSearchInRange result (length txns.now) }
     ensures place { IsAscendingBy number_of txns.now → result ≡ place_of number_of txns.now t.0 }

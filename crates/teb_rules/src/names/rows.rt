@@ -50,8 +50,11 @@ impl Rows {
         Rows { rows }
     }
 
-    /// Adds a row, and returns true; returns false if the cell already has a row, which is unchanged.
-    /// A row after all others costs the search alone.
+    /// Adds a row, and returns true; returns false if the cell already has a row, which is unchanged. A row after all others
+    /// costs the search alone.
+    ///
+    /// # Errors
+    /// `AllocError`: out of memory. The rows are unchanged.
     pub fn insert(&mut self, cell: Cell, value: i64) -> Result<bool, AllocError>
         ensures added { IfOk result (λ new. new ≡ is_none (row_of self.old cell)) }
         ensures rows { IfOk result (λ new. self.new ≡ (if new then insert_row self.old cell value else self.old)) }
