@@ -30,9 +30,10 @@ impl<S: EpochServer> StoreSession<S> {
     /// What the session has seen goes on by this call, and of the commits that the log has told that it keeps there are no fewer.
     ///
     /// # Errors
-    /// `Spent` if the session has asked `MOST_ASKS` times. With `Unasked` and `Spent` nothing was asked. `Unsure` if the log failed before it
-    /// kept a commit: the call is in the life of the store, and a crash may keep it or not. Nothing is asked from then on. It is answered,
-    /// too, once the log has spent its turns at the front, of which it has 2^44.
+    /// `Spent` if the session has made `MOST_ASKS` calls. `Unasked` if the log has failed earlier, or has spent its turns at the front, of
+    /// which it has 2^44; if the commit or the rows of the next epoch do not fit; or if memory runs out. With both, nothing was asked.
+    /// `Unsure` if the log failed before it kept a commit, or had spent its turns: the call is in the life of the store, and a crash may
+    /// keep it or not. Once the log has failed, nothing is asked.
     pub fn ask<R: Wait>(
         &mut self,
         store: &Store<S>,
@@ -70,7 +71,7 @@ impl<S: EpochServer> StoreSession<S> {
     /// a session that is silent, and holds up others.
     ///
     /// # Errors
-    /// As those of `ask`, but for `Unsure`. Nothing was ended.
+    /// Those of `ask`, except `Unsure`. Nothing was ended.
     pub fn expel<R: Wait>(
         &mut self,
         store: &Store<S>,

@@ -25,7 +25,7 @@ impl<S: EpochServer> StoreSession<S> {
     /// Asks, and waits until the log keeps the commit, if it is one.
     ///
     /// # Errors
-    /// `Unsure` if the log does not keep it.
+    /// `Unsure` if the log does not keep it. `Unasked` if nothing was asked.
     pub(crate) fn ask_through<R: Wait>(
         &mut self,
         store: &Store<S>,
@@ -151,7 +151,7 @@ impl<S: EpochServer> StoreSession<S> {
     }
 }
 
-/// True if it is the reply to a commit that was made.
+/// Returns true if it is the reply to a commit that was made.
 fn is_commit(reply: &StoreReply) -> bool
     ensures { result ≡ is_commit_reply reply.now }
 {

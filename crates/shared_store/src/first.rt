@@ -19,7 +19,7 @@ impl<S> Model for First<S> {
 unsafe impl<S> Send for First<S> {}
 
 impl<S> First<S> {
-    /// The server as it is now.
+    /// Returns the server as it is now.
     pub(crate) fn of(server: &S) -> First<S>
         ensures { result.value ≡ server.now }
     {

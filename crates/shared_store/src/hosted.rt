@@ -61,10 +61,10 @@ impl<S: EpochServer> Member for Hosted<S> {
 }
 
 impl<S: EpochServer> Hosted<S> {
-    /// A server with an empty life.
+    /// Returns a server with an empty life.
     ///
     /// # Errors
-    /// The server, if memory is out.
+    /// The server, if memory runs out.
     pub(crate) fn new(alloc: Global, server: S) -> Result<Hosted<S>, S>
         requires fresh { (S.standing server).events ≡ [] }
         requires waits { ∥ S.waits server [] ∥₁ }
@@ -85,7 +85,7 @@ impl<S: EpochServer> Hosted<S> {
         })
     }
 
-    /// The server alone.
+    /// Returns the server alone.
     pub(crate) fn into_server(self) -> S
         ensures { result ≡ self.server }
     {
@@ -121,7 +121,7 @@ impl<S: EpochServer> Hosted<S> {
         }
     }
 
-    /// True if the epoch is to end, and the session holds no transaction and asks to begin one.
+    /// Returns true if the epoch is to end, and the session holds no transaction and asks to begin one.
     fn is_late(&self, session: Session, request: Request) -> bool
         ensures late { result ≡ true → IsBegin request × (S.ending self.now.server ≡ true) × (holds (S.standing self.now.server).events session ≡ false) }
         ensures open { result ≡ false → IsBegin request → S.ending self.now.server ≡ true → holds (S.standing self.now.server).events session ≡ true }
@@ -133,7 +133,7 @@ impl<S: EpochServer> Hosted<S> {
         }
     }
 
-    /// True if nothing keeps the epoch from its end. If only sessions do that were not told of an abort, other than this one, their
+    /// Returns true if nothing keeps the epoch from its end. If only sessions do that were not told of an abort, other than this one, their
     /// transactions are ended for them.
     fn drain(&mut self, alloc: Global, by: Session) -> Result<bool, Fault>
         ensures marks { AddsMarks by.0 self.old.entries.items self.new.entries.items }
@@ -309,14 +309,14 @@ impl<S: EpochServer> Hosted<S> {
     }
 }
 
-/// The short form of a reply.
+/// Returns the short form of a reply.
 fn short_of(reply: &Reply) -> Option<ShortReply>
     ensures { IsShortOf reply.now result }
 {
     ShortReply::of(reply)
 }
 
-/// How many commits the reply is.
+/// Returns how many commits the reply is: 1 for Committed, and else 0.
 fn commits_of(reply: &Reply) -> u64
     ensures is { result ≡ commits_in reply.now }
     ensures few { result ≤ 1 }

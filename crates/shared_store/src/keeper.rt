@@ -39,7 +39,7 @@ pub struct Keeper<S: EpochServer> {
 }
 
 impl<S: EpochServer> Keeper<S> {
-    /// A log that keeps what there is, with a seat that has seen nothing.
+    /// Returns the keeper of a log that keeps what there is, with a seat that has seen nothing.
     pub(crate) fn new(log: S::Log, seat: Seat<Hosted<S>, LifeEntry, Origin>) -> Keeper<S>
         requires outside { IsOutside seat }
         requires seated { IsLogSeat LOG_TURNS (view_of seat) }
@@ -57,7 +57,7 @@ impl<S: EpochServer> Keeper<S> {
         }
     }
 
-    /// The log and the seat alone.
+    /// Returns the log and the seat alone.
     pub(crate) fn into_parts(self) -> (S::Log, Seat<Hosted<S>, LifeEntry, Origin>)
         ensures { (result.0 ≡ self.log) × (result.1 ≡ self.seat) × IsOutside result.1 }
     {

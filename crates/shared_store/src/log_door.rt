@@ -143,8 +143,8 @@ impl LogDoor {
         }
     }
 
-    /// Waits until more than so many sessions are at the door, and returns how many are; none if none has come for a moment, or all that
-    /// were served lately are there.
+    /// Waits until more than `last` sessions are at the door, and returns how many are; `None` if none has come for a moment, or all
+    /// that were served lately are there.
     fn await_another<R: Wait>(&self, rt: &R, last: usize) -> Option<usize> {
         for _ in 0..LOOKS {
             let present = {

@@ -24,12 +24,12 @@ use teb_rules::names::{SESSIONS, Session};
 use turn_lock::{SeatOf, Turn};
 
 impl<S: EpochServer> Store<S> {
-    /// A store over a server and its log, and the sessions 1 to `SESSIONS`, in order. The life of the store begins where the server is. In
-    /// its epoch nothing has happened, as in one that was just opened.
+    /// Returns a store over a server and its log, and the sessions 1 to `SESSIONS`, in order. The life of the store begins where the
+    /// server is. In its epoch nothing has happened, as in one that was just opened.
     ///
     /// # Errors
-    /// The server and the log, if memory is out. The log is as it was, and the server stands where it stood, with no commit that waits. So
-    /// they may be tried again.
+    /// The server and the log, if memory is out. The log and the server's store and history are unchanged, and no commit waits. So they
+    /// may be tried again.
     pub fn new(
         alloc: Global,
         server: S,

@@ -3,7 +3,7 @@
 use short_reply::ShortReply;
 use teb_rules::names::Reply;
 
-/// What a session is answered.
+/// The answer to a call of a session.
 #[derive(Clone, Copy, Debug, PartialEq, Eq)]
 pub enum StoreReply {
     /// The reply of the rules.

@@ -26,7 +26,7 @@ pub enum Obstacle {
 /// What answers requests one after another as the rules do. A commit waits until it is taken and written to a log, which keeps it. It goes
 /// on in epochs.
 pub trait EpochServer: Sized {
-    /// Keeps the commits.
+    /// The log, which keeps the commits.
     type Log;
 
     /// Commits that were taken.
@@ -59,16 +59,18 @@ pub trait EpochServer: Sized {
         ensures waits { (H : List Event) → waits self.old H → waits self.new H }
         ensures full { IsErrOf result faults.Full → ending self.new ≡ true };
 
-    /// True if no further transaction is to begin in this epoch, as once `MOST_TXNS` have begun.
+    /// Returns true if no further transaction is to begin in this epoch, as once `MOST_TXNS` have begun.
     fn is_ending(&self) -> bool
         ensures ending { result ≡ ending self.now }
         ensures room { result ≡ false → begun_count (standing self.now).events < MOST_TXNS };
 
-    /// True if the session holds a live transaction: one that is unfinished, or that was aborted and of which the session was not told.
+    /// Returns true if the session holds a live transaction: one that is unfinished, or that was aborted and of which the session was not
+    /// told.
     fn holds(&self, session: Session) -> bool
         ensures { result ≡ holds (standing self.now).events session };
 
-    /// What keeps the epoch from its end: a transaction is unfinished, or a session holds one that was aborted and was not told of it.
+    /// Returns what keeps the epoch from its end: a transaction is unfinished, or a session holds one that was aborted and was not told of
+    /// it. `None` says that nothing does.
     fn obstacle(&self) -> Option<Obstacle>
         ensures { result ≡ None → IsDrained (standing self.now).events };
 
@@ -87,7 +89,7 @@ pub trait EpochServer: Sized {
         ensures kept { (X : Store) (H G : List Event) → keeps log.old X H (commit_count H) → brings batch X H G → OnOk result ((failed log.new ≡ false) × keeps log.new X G (commit_count G)) }
         ensures not_kept { (X : Store) (H G : List Event) → keeps log.old X H (commit_count H) → brings batch X H G → OnErr result ((failed log.new ≡ true) × keeps log.new X G (commit_count H)) };
 
-    /// True if a call of the log has failed.
+    /// Returns true if a call of the log has failed.
     fn has_failed(log: &Self::Log) -> bool
         ensures { result ≡ failed log.now };
 

@@ -14,10 +14,10 @@ use crate::site::Site;
 use teb_rules::names::Session;
 use turn_lock::Seat;
 
-/// How often a session may ask.
+/// How many calls of `ask` and `expel` a session may make.
 pub const MOST_ASKS: u64 = 1 << 38;
 
-/// How many turns it has for that at the front, and how many at the log: two for each time. All sessions have half of the 2^45 turns of a
+/// How many turns it has for that at the front, and how many at the log: two for each call. All sessions have half of the 2^45 turns of a
 /// turn lock; the log's seat has the other half of those at the front.
 pub const MOST_TURNS: u64 = 1 << 39;
 
@@ -54,21 +54,21 @@ impl<S: EpochServer> StoreSession<S> {
         }
     }
 
-    /// The number of the session.
+    /// Returns the number of the session.
     pub fn session(&self) -> Session
         ensures { result ≡ self.now.session }
     {
         self.session
     }
 
-    /// How often the session has asked.
+    /// Returns how many calls of `ask` and `expel` the session has made.
     pub fn asks(&self) -> u64
         ensures { result ≡ self.now.asks }
     {
         self.asks
     }
 
-    /// The seats alone.
+    /// Returns the seats alone.
     pub(crate) fn into_seats(
         self,
     ) -> (

@@ -10,7 +10,8 @@ use std::alloc::Global;
 use std::sync::Wait;
 use turn_lock::{SeatOf, Turn};
 
-/// Enters with the log's seat, takes the commits that wait, and leaves. It returns how many commits the life has by then, too.
+/// Enters with the log's seat, takes the commits that wait, and leaves. It returns the commits, and how many the life has by
+/// then.
 pub(crate) fn take_batch<S: EpochServer, R: Wait>(
     rt: &R,
     alloc: Global,

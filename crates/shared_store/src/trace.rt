@@ -35,7 +35,7 @@ struct Link<E> {
 }
 
 impl<E> Trace<E> {
-    /// The list that has nothing.
+    /// Returns the empty list.
     pub(crate) fn new() -> Trace<E>
         ensures { result.items ≡ [] }
     {
@@ -54,7 +54,7 @@ impl<E> Trace<E> {
         }
     }
 
-    /// The list, and behind it one more value.
+    /// Returns the list with one more value at its end.
     pub(crate) fn with(self, entry: E) -> Trace<E>
     where
         E: Drop,
