@@ -84,7 +84,7 @@ pub fn put<C: Chains>(access: &Access<'_, C>, value: Option<i64>) -> Decision
     }
 }
 
-/// Why an access is refused.
+/// Returns why an access is refused, or `None` if it is not.
 pub fn refusal<C: Chains>(asking: &Asking<'_, C>, cell: Cell) -> Option<Refusal>
     ensures refusal { IsRefusal (store_in asking.now.view.now) (events_in asking.now.view.now) asking.now.txn.0 cell result }
     ensures asks { result ≡ None → IsAsking (store_in asking.now.view.now).setup (events_in asking.now.view.now) asking.now.txn.0 cell }

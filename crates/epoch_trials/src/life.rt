@@ -168,7 +168,8 @@ pub fn live<D: Disk + Drop>(alloc: Global, disk: D) -> Result<Lived<D>, Fail> {
     })
 }
 
-/// Opens a disk. Returns after how many records its rows are those found.
+/// Opens a disk. Returns after how many records its rows are those found, or `None` if it is not opened or they are the rows after
+/// no number.
 pub fn find<D: Disk + Drop>(alloc: Global, disk: D) -> Option<u32> {
     match EpochJournal::open(alloc, disk, &LABEL, &rows(0)) {
         Ok((_, found)) => count_of(&found),

@@ -21,7 +21,7 @@ impl<'a> Facts<'a> {
     ghost use Rattle.teb_rules.specs.Tree.{on, side, meets};
     ghost use Rattle.phase_api.specs.FactsView.{setup_of, events_of, IsTyped};
 
-    /// Returns the type and the instance with which a transaction began.
+    /// Returns the type and the instance with which a transaction began, or `None` if it has not begun.
     pub fn spot(&self, t: Txn) -> Option<Spot>
         ensures begun { IsSome result ↔ IsTrue (begun (events_of self.now) t.0) }
         ensures spot { IfSome result (λ s. s ≡ spot_of (events_of self.now) t.0) }

@@ -6,7 +6,7 @@ ghost use Rattle.session_tasks.specs.Scripted.{place_in, lines_at};
 use script_text::{Line, Scripts};
 use teb_rules::names::Session;
 
-/// Returns the place of a session among those with a script.
+/// Returns the place of a session among those with a script, or `None` if it has none.
 pub fn place_in(scripts: &Scripts, session: Session) -> Option<usize>
     ensures { result ≡ place_in scripts.now session.0 }
 {

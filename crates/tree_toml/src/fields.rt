@@ -19,7 +19,7 @@ pub fn place(list: ListName, index: u32, key: Key) -> Place
     Place { list, index, key }
 }
 
-/// Returns the value at a key.
+/// Returns the value at a key, or `None` if the key is missing.
 pub fn found<'a>(table: &'a Table, key: &str) -> Option<&'a Value>
     ensures { option_map (λ v. view v.now) result ≡ get_member key.now (table_view table.now) }
 {
@@ -58,7 +58,7 @@ pub fn integer_at(table: &Table, key: &str) -> Result<Option<i64>, FieldWhy>
     }
 }
 
-/// Returns the values of an array.
+/// Returns the values of an array, or `None` if the value is no array.
 #[tactic(auto, using(crate::proofs::Views::as_list_view))]
 pub fn as_list(value: &Value) -> Option<&[Value]>
     ensures { option_map (λ a. map view a.now) result ≡ spec_as_list (view value.now) }

@@ -44,7 +44,7 @@ pub trait Chains: Drop {
         requires { i < length (lists self.now cell) }
         ensures { slice_get (lists self.now cell) i ≡ Some result };
 
-    /// Returns the place of a writer's version.
+    /// Returns the place of a writer's version, or `None` if it has none.
     fn find(&self, cell: Cell, t: Txn) -> Option<usize>
         ensures { result ≡ first_place (λ w. eqb w t.0) (writers_of (lists self.now cell)) };
 
@@ -69,7 +69,7 @@ pub trait Chains: Drop {
         ensures lists { (x : Cell) → lists self.new x ≡ without t.0 (lists self.old x) }
         ensures spare { spare self.old ≤ spare self.new };
 
-    /// Returns the last place whose writer f accepts. The search goes from the last place down.
+    /// Returns the last place whose writer f accepts, or `None` if f accepts none. The search goes from the last place down.
     fn last_where<F: Fn(Txn) -> bool>(&self, cell: Cell, f: &F) -> Option<usize>
         requires { (u : Txn) → IsTrue (is_writer (lists self.now cell) u.0) → F.pre f.now u }
         ensures place { (p : ℕ → Bool)
@@ -80,7 +80,8 @@ pub trait Chains: Drop {
         self.last_where_from(cell, 0, f)
     }
 
-    /// Returns the last place, from `from` on, whose writer f accepts. No place below `from` is looked at.
+    /// Returns the last place, from `from` on, whose writer f accepts, or `None` if f accepts none. No place below `from` is
+    /// looked at.
     fn last_where_from<F: Fn(Txn) -> bool>(&self, cell: Cell, from: usize, f: &F) -> Option<usize>
         requires { (u : Txn) → IsTrue (is_writer (lists self.now cell) u.0) → F.pre f.now u }
         ensures place { (p : ℕ → Bool)
@@ -88,7 +89,8 @@ pub trait Chains: Drop {
             → result ≡ unless_below from (last_place p (writers_of (lists self.now cell))) }
         ensures within { IfSome result (λ i. i < length (lists self.now cell)) };
 
-    /// Returns the version of a writer, or else the last one whose writer f accepts. If the writer has one, f is not asked.
+    /// Returns the version of a writer, or else the last one whose writer f accepts, or `None` if there is neither. If the
+    /// writer has one, f is not asked.
     fn own_or_last<F: Fn(Txn) -> bool>(&self, cell: Cell, t: Txn, f: &F) -> Option<Found>
         requires { IsFalse (is_writer (lists self.now cell) t.0) → (u : Txn) → IsTrue (is_writer (lists self.now cell) u.0) → F.pre f.now u }
         ensures place { (p : ℕ → Bool)

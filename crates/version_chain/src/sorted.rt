@@ -34,14 +34,14 @@ pub fn chain(versions: &[Stored], cell: Cell) -> &[Stored]
     &versions[start..][..len]
 }
 
-/// Returns the first place of a chain whose writer is t.
+/// Returns the first place of a chain whose writer is t, or `None` if it has none.
 pub fn place_of(chain: &[Stored], t: Txn) -> Option<usize>
     ensures { result ≡ first_place (λ w. eqb w t.0) (writers_of (map version chain.now)) }
 {
     chain.iter().position(|v| v.writer == t)
 }
 
-/// Returns the last place of a chain, from `from` on, whose writer f accepts.
+/// Returns the last place of a chain, from `from` on, whose writer f accepts, or `None` if f accepts none.
 pub fn last_accepted<F: Fn(Txn) -> bool>(chain: &[Stored], from: usize, f: &F) -> Option<usize>
     requires { (u : Txn) → IsTrue (is_writer (map version chain.now) u.0) → F.pre f.now u }
     ensures place { (p : ℕ → Bool)

@@ -39,7 +39,7 @@ fn long_number(word: &[u8], most: u64) -> Option<u64>
     if value <= most { Some(value) } else { None }
 }
 
-/// The same for a byte, fast for one or two digits.
+/// Returns the same for a byte. It is fast for one or two digits.
 #[tactic(auto, unfolding(crate::specs::Numbers::number_upto))]
 pub fn small_number(word: &[u8], most: u8) -> Option<u8>
     ensures { result ≡ number_upto most word.now }
@@ -66,7 +66,7 @@ fn few_digits(word: &[u8]) -> Option<u8>
     }
 }
 
-/// Returns the value of one to twenty digits, after at most one `-`, in 64 bits.
+/// Returns the value of one to twenty digits, after at most one `-`, or `None` if the word is none in 64 bits.
 #[inline(always)]
 #[tactic(auto, unfolding(crate::specs::Numbers::integer_of))]
 pub fn integer(word: &[u8]) -> Option<i64>

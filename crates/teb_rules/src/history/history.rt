@@ -172,7 +172,7 @@ impl History {
         &self.live
     }
 
-    /// Returns the transaction that a session holds. It goes through the live transactions.
+    /// Returns the transaction that a session holds, or `None` if it holds none. It goes through the live transactions.
     pub fn held(&self, s: Session) -> Option<Txn>
         ensures { result ≡ held_txn self.now.events s }
     {
@@ -278,7 +278,7 @@ impl History {
         self.standing(t).is_prepared()
     }
 
-    /// Returns the type and the instance with which a transaction began.
+    /// Returns the type and the instance with which a transaction began, or `None` if it has not begun.
     #[tactic(auto, using(crate::proofs::lemmas::history::Standings::start_spot))]
     pub fn spot(&self, t: Txn) -> Option<Spot>
         ensures { result ≡ begun_spot self.now.events t.0 }
@@ -286,7 +286,7 @@ impl History {
         self.standing(t).start.map(|start| start.spot)
     }
 
-    /// Returns the type with which a transaction began.
+    /// Returns the type with which a transaction began, or `None` if it has not begun.
     #[tactic(auto, using(crate::proofs::lemmas::history::Standings::start_kind))]
     pub fn kind(&self, t: Txn) -> Option<Kind>
         ensures { result ≡ begun_kind self.now.events t.0 }
@@ -294,7 +294,7 @@ impl History {
         self.standing(t).start.map(|start| start.spot.kind)
     }
 
-    /// Returns the session that began a transaction.
+    /// Returns the session that began a transaction, or `None` if it has not begun.
     #[tactic(auto, using(crate::proofs::lemmas::history::Standings::start_session))]
     pub fn session(&self, t: Txn) -> Option<Session>
         ensures { result ≡ begun_session self.now.events t.0 }
@@ -302,7 +302,7 @@ impl History {
         self.standing(t).start.map(|start| start.session)
     }
 
-    /// Returns the cause of an abort.
+    /// Returns the cause of an abort, or `None` if the transaction is not aborted.
     pub fn cause(&self, t: Txn) -> Option<Cause>
         ensures { result ≡ cause_of self.now.events t.0 }
     {
