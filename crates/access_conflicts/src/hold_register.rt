@@ -105,6 +105,7 @@ impl HoldRegister {
         requires { Registered self.now (setup_of facts.now) (events_of facts.now) }
         ensures { result.now ≡ holds_in (setup_of facts.now) (events_of facts.now) self.now.node.0 cell }
     {
+        // Only the contract uses the facts.
         let _ = facts;
         self.book.holds(cell)
     }

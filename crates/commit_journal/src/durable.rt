@@ -131,6 +131,7 @@ impl<C: Chains, D: Disk> Durable<C, D> {
         ensures events { result.now.events ≡ self.now.events }
         ensures serial { (k : ℕ) → IsOfSerialRun self.now.store self.now.events k }
     {
+        // Its contract tells that the history is lawful, and that some requests lead to it: `serial` follows.
         let _ = self.engine.history();
         &self.engine
     }

@@ -7,7 +7,7 @@ use std::alloc::AllocError;
 pub enum CreateError<D> {
     /// The disk failed. It is returned.
     DiskFault(D),
-    /// Never returned: a store takes no memory in addition to that of its engine.
+    /// Never returned: a store takes no memory in addition to that of its engine. It stays for callers that match each variant.
     OutOfMemory,
 }
 

@@ -23,6 +23,7 @@ impl<S> First<S> {
     pub(crate) fn of(server: &S) -> First<S>
         ensures { result.value ≡ server.now }
     {
+        // Only the proof uses it: it takes the value from the server.
         let _ = server;
         First {
             marker: PhantomData,

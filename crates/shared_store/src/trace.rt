@@ -48,6 +48,7 @@ impl<E> Trace<E> {
     fn none(nothing: &Nothing<E>) -> Trace<E>
         ensures { result.items ≡ [] }
     {
+        // Only the proof uses it: it makes the list that has nothing.
         let _ = nothing;
         Trace {
             marker: PhantomData,
@@ -80,6 +81,7 @@ impl<E> Trace<E> {
     fn of(link: &Link<E>) -> Trace<E>
         ensures { result.items ≡ link.now.before.items ++ link.now.entry ∷ [] }
     {
+        // Only the proof uses it: it takes the items from the list and the entry.
         let _ = link;
         Trace {
             marker: PhantomData,

@@ -52,6 +52,7 @@ impl<D: Renew + Drop> ShellStore for KeptStore<D> {
 
     fn history(&self) -> &History {
         let engine = self.store.engine();
+        // Its contract tells that the setup is whole: each node and table in the events has a name.
         let _setup = engine.setup();
         engine.history()
     }
@@ -70,6 +71,7 @@ impl<D: Renew + Drop> ShellStore for KeptStore<D> {
 
     fn rows(&self, alloc: Global) -> Result<Vec<(Cell, i64)>, AllocError> {
         let engine = self.store.engine();
+        // Their contracts tell that some requests lead to the history, and that the setup is whole: each table in the rows has a name.
         let (_history, _setup) = (engine.history(), engine.setup());
         tables(alloc, engine)
     }
@@ -85,6 +87,7 @@ impl<D: Renew + Drop> ShellStore for KeptStore<D> {
         request: Request,
     ) -> Result<StoreReply, AllocError> {
         let engine = self.store.engine();
+        // Their contracts tell that some requests lead to the history, and that each table has a name: so has all that a reply names.
         let (_history, _setup) = (engine.history(), engine.setup());
         match self.store.ask(alloc, session, request) {
             Ok(reply) => Ok(StoreReply::Reply(reply)),

@@ -39,6 +39,7 @@ pub fn commits_in_order(tree: &Tree) -> bool
     ensures condition { IsCondition orders_by_commits tree.now.rows result }
     ensures guarantee { IsTrue result → Guarantees tree.now.rows (λ X H. FollowsCommits X.setup H) }
 {
+    // A law, from which `guarantee` follows.
     guarantees::serial_order_is_commit_order();
     match root(tree).control {
         ControlKind::Locks | ControlKind::Pipeline => true,
@@ -52,6 +53,7 @@ pub fn is_strict(tree: &Tree) -> bool
     ensures condition { IsCondition keeps_time tree.now.rows result }
     ensures guarantee { IsTrue result → Guarantees tree.now.rows (λ X H. KeepsRealTime X.setup H) }
 {
+    // A law, from which `guarantee` follows.
     guarantees::serial_order_keeps_time();
     let root = root(tree);
     commits_in_order(tree) || !root.types.is_empty() || root.batch <= 1
@@ -62,6 +64,7 @@ pub fn has_no_cascades(tree: &Tree) -> bool
     ensures condition { (S : Setup) → S.tree ≡ tree.now.rows → (IsTrue result ↔ HidesUncommitted S) }
     ensures guarantee { IsTrue result → Guarantees tree.now.rows HasNoCascade }
 {
+    // A law, from which `guarantee` follows.
     guarantees::aborts_stay_alone();
     for n in 0..tree.len() {
         match tree.row(Node(n)).control {
@@ -79,6 +82,7 @@ pub fn reads_never_wait(tree: &Tree, spot: Spot) -> bool
     ensures condition { (X : Store) (H : List Event) (t : ℕ) → X.setup.tree ≡ tree.now.rows → spot_of H t ≡ spot → (IsTrue result ↔ ReadsFreely X H t) }
     ensures guarantee { IsTrue result → Guarantees tree.now.rows (ServesReads spot) }
 {
+    // A law, from which `guarantee` follows.
     guarantees::reads_go_on();
     keep_batches(tree, tree.path(spot))
 }
@@ -101,6 +105,7 @@ fn keep_batches(tree: &Tree, nodes: &[Node]) -> bool
 fn root(tree: &Tree) -> &NodeRow
     ensures { row_of result.now ≡ row tree.now.rows 0 }
 {
+    // Its contract tells that the tree has a node.
     let _nodes = tree.len();
     tree.row(Node(0))
 }

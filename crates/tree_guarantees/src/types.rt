@@ -17,6 +17,7 @@ pub fn type_reads_never_wait(tree: &Tree, kind: Kind) -> bool
     ensures condition { result ≡ type_has_batches tree.now.rows kind.0 }
     ensures guarantee { IsTrue result → (i : ℕ) → Guarantees tree.now.rows (ServesReads (spot kind.0 i)) }
 {
+    // A law, from which `guarantee` follows.
     guarantees::reads_go_on();
     keeps_batches_to(tree, kind)
 }
@@ -25,6 +26,7 @@ pub fn type_reads_never_wait(tree: &Tree, kind: Kind) -> bool
 fn keeps_batches_to(tree: &Tree, kind: Kind) -> bool
     ensures { result ≡ type_has_batches tree.now.rows kind.0 }
 {
+    // Its contract tells that the tree has a node.
     let _some = tree.len();
     let root = way_keeps_batches(tree, Node(0));
     root && leaves_keep_batches(tree, kind)
@@ -92,6 +94,7 @@ fn step_up(tree: &Tree, n: Node, most: u8) -> Option<Node>
     if most == 0 {
         return None;
     }
+    // Its contract tells that the tree has no fault: each parent is an earlier node.
     let _accepted = tree.len();
     tree.row(n).parent
 }

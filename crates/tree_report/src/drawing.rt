@@ -35,6 +35,7 @@ pub fn put_tree(
 ) -> Result<(), AllocError>
     ensures { OnOk result (out.new.items ≡ out.old.items ++ drawing names.now tree.now.rows) }
 {
+    // Its contract tells that the tree has a node.
     let _some = tree.len();
     put_node(out, names, tree, Node(0))?;
     put_below(alloc, out, names, tree, Node(0), b"", MOST_LEVELS)

@@ -19,6 +19,7 @@ impl<T: Member> Turn<T> {
         ensures view { view_of seat.new ≡ published note word (view_of seat.old) }
         ensures known { slice_index (view_of seat.new).notes note ≡ word }
     {
+        // Only the contract uses the value: it has this note, with this word.
         let _ = value;
         let at = note as usize + 2;
         self.table.shared.store::<Publish>(&mut seat.seat, at, word);
