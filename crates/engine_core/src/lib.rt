@@ -22,7 +22,8 @@
 //! requests leads to the events (`IsOfEngine`; `Engine::history`, clause `reached`). So every law of `teb_rules::laws` and `guarantees`
 //! holds of every engine at every moment. An `Err` of `ready` changes nothing (clause `err`).
 //!
-//! **What it costs.** A request costs what it touches: the nodes of one path, and what each looks up (`docs/PERFORMANCE.md`).
+//! **What it costs.** A request costs what it touches: the nodes of one path are asked, and each looks up what it keeps. Each event of
+//! the answer is then noted in the control of every node of the tree, on the path or not (`docs/PERFORMANCE.md`).
 //!
 //! **Not claimed**: any speed; that an abort will not be repeated if the session begins again. One thread at a time asks an engine;
 //! `session_server` shares one among threads.

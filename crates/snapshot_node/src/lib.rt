@@ -26,8 +26,13 @@
 //! (`settled_hold_no_pivot` of `teb_rules::laws`).
 //!
 //! **What it costs.** Edges are not stored, since an edge to a prepared transaction goes away if that one aborts. A validation finds
-//! them by cell, from the *horizon* on: the first transaction that may be concurrent. Two *marks* for each batch and each transaction
-//! say that an edge may lead into it or out of it. A mark that is not set spares a search; the answer never depends on a mark.
+//! those of its transaction by cell, from the *horizon* on: the first transaction that may be concurrent. Two *marks* for each batch
+//! and each transaction say that an edge may lead into it or out of it. A mark that is not set spares a search; the answer never
+//! depends on a mark.
+//!
+//! If the marks do not exclude a pivot, the edges into or out of another batch are searched too. That takes a look at every transaction
+//! from the horizon of that batch to the last one that has begun, and a search by cell for each marked member. It may be repeated for
+//! each transaction with which the one that validates, or the first of the pivot, shares an edge.
 //!
 //! **Not claimed**: that a broken transaction was in a cycle. As in serializable snapshot isolation, some breaks are not needed.
 #![tactic(auto)]
