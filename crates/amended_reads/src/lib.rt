@@ -12,6 +12,8 @@
 //! - [`amended_is_last_seen`]: it is the last version that the transaction sees.
 //! - [`amended_is_read`]: a transaction that has put no version of the cell reads it, or the starting row if there is none.
 //!
+//! **Law only**: no code uses this crate.
+//!
 //! Each holds of every sound tree, every lawful history, and chains that hold its versions (`OfEveryReader` of `specs/Laws`).
 //!
 //! **Not claimed**: that the engine reads in this way; it walks the chain once (`read` of `candidate_reads`).

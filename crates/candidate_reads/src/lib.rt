@@ -23,6 +23,9 @@
 //! transaction, and from which none does (`IsPlaceOf` of `phase_api`). Both hold of a lawful history, controls that stand for it, and
 //! chains that hold its versions (`HoldsVersions`).
 //!
+//! **Law only**: no code calls [`candidate`] and [`amend`], since the engine reads by one walk ([`read`]). They carry the law that
+//! amending the candidate from the leaf to the root gives the version that is read (`amended_reads`).
+//!
 //! **What it costs.** A read walks from the newest version down to the first that is seen.
 //!
 //! **Not claimed**: that the read may be made. The engine asks the nodes first.
