@@ -5,7 +5,7 @@ use thiserror::Error;
 /// Why nothing was asked.
 #[derive(Clone, Copy, Debug, PartialEq, Eq)]
 pub enum Fault {
-    /// The log has failed earlier.
+    /// The log has failed earlier, or has spent its turns.
     Stopped,
     /// The commit, or the rows of the next epoch, do not fit the disk.
     Full,
@@ -30,7 +30,7 @@ pub enum StoreError {
     /// Nothing was asked.
     #[error("not asked: {0:?}")]
     Unasked(Fault),
-    /// The log failed before it kept the commit. A crash may keep the commit or not. Nothing is asked any more.
+    /// The log failed before it kept the commit, or has spent its turns. A crash may keep the commit or not.
     #[error("the log failed before it kept the commit")]
     Unsure,
 }

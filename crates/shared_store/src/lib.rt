@@ -1,7 +1,7 @@
 //! One store that sessions share, over epochs without end, whose commits share the syncs of the disk.
 //!
-//! It is for many threads that use one store at once. A session that reads or writes never waits for the disk; sessions that commit at the
-//! same time wait for the same two syncs. What a store needs of memory does not grow with its life.
+//! It is for many threads that use one store at once. A session that reads or writes does not wait for the disk, except while an epoch
+//! ends; sessions that commit at the same time wait for the same two syncs. What a store needs of memory does not grow with its life.
 //!
 //! Terms: the *server* ([`EpochServer`]) answers requests as the rules do; the *log* keeps commits; a commit *waits* from when it is answered by
 //! the server until the log takes it; an *epoch* has at most 8,192 transactions; the *life* is the list of all that was asked, over all epochs.
@@ -29,7 +29,7 @@
 //!
 //! When the epoch comes to its end, a Begin of a session that holds no transaction is answered [`StoreReply::Later`], and each other request
 //! is asked as before. Once all transactions have finished, the next session that asks to begin one ends the epoch at the log turn: it
-//! writes what waits, and begins the next epoch. Then it asks again.
+//! writes what waits, and begins the next epoch. Nobody is answered at the front meanwhile. Then it asks again.
 //!
 //! **What is proved.** All that is asked, each time that the log took what waited, and each end of an epoch, are in one list, the life of the
 //! store. It exists in proofs alone ([`Trace`]). The answered calls of each session are in it once, in the order in which it made them, each
