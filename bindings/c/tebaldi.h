@@ -26,10 +26,11 @@
 extern "C" {
 #endif
 
-/* The status that a call returns. If it is not TEBALDI_OK, the store is unchanged, and so is everything that the call may write, except the
- * line of a tree's fault (TEBALDI_BAD_TREE), the wrong line of a printed run (TEBALDI_BAD_RUN), who hinders the next epoch
- * (TEBALDI_UNFINISHED, TEBALDI_UNTOLD), and where a file is damaged (TEBALDI_DAMAGED). At TEBALDI_UNSURE and TEBALDI_STOPPED the store, if
- * it was not stopped before, is stopped now. */
+/* The status that a call returns. If it is neither TEBALDI_OK nor TEBALDI_UNSURE, the store is unchanged. If it is not TEBALDI_OK, so is
+ * everything that the call may write, except the line of a tree's fault (TEBALDI_BAD_TREE), the wrong line of a printed run
+ * (TEBALDI_BAD_RUN), who hinders the next epoch (TEBALDI_UNFINISHED, TEBALDI_UNTOLD), and where a file is damaged (TEBALDI_DAMAGED).
+ * At TEBALDI_UNSURE the store has the commit, or the new epoch, and the file may have it or not. After TEBALDI_UNSURE and
+ * TEBALDI_STOPPED the store is stopped. */
 enum {
     TEBALDI_OK = 0,
     TEBALDI_NOT_OPEN = 1,      /* the store is not open */
@@ -45,7 +46,7 @@ enum {
     TEBALDI_UNTOLD = 11,       /* a session was not told that its transaction was aborted: it asks once more */
 
     /* Of a store in a file. */
-    TEBALDI_STOPPED = 12,        /* a call on the file has failed, or a commit ran out of memory: nothing is answered; open the file anew */
+    TEBALDI_STOPPED = 12,        /* a call on the file has failed: nothing is answered; open the file anew */
     TEBALDI_UNSURE = 13,         /* the file may have this commit, or this epoch, or not; the store is stopped */
     TEBALDI_NO_ROOM = 14,        /* the commit or the rows do not fit the file: begin the next epoch */
     TEBALDI_WAITING = 15,        /* calls on the file wait to be performed */
@@ -212,14 +213,16 @@ uint32_t tebaldi_open(struct tebaldi_store *store, const uint8_t *tree, size_t t
 /* Ends the present epoch of a store, and begins the next one with the rows that it leaves, under a tree text with the same tables; the rows of
  * the text are not used. The history begins anew, and transactions count from 1 again. An epoch ends at the latest with TEBALDI_FULL: 8,192
  * transactions have begun. TEBALDI_NOT_OPEN, TEBALDI_BAD_TREE (as tebaldi_open), TEBALDI_OTHER_TABLES, TEBALDI_OUT_OF_MEMORY;
- * TEBALDI_UNFINISHED, and then `*who` is the first unfinished transaction; TEBALDI_UNTOLD, and then `*who` is the first such session. */
+ * TEBALDI_UNFINISHED, and then `*who` is the first unfinished transaction; TEBALDI_UNTOLD, and then `*who` is the first such session.
+ * Of a store of tebaldi_open_image also TEBALDI_WAITING, TEBALDI_STOPPED and TEBALDI_NO_ROOM. */
 uint32_t tebaldi_next_epoch(struct tebaldi_store *store, const uint8_t *tree, size_t tree_len, uint8_t *fault, size_t fault_room, size_t *fault_len,
                             uint32_t *who);
 
 /* Closes a store, and frees its memory. A closed store stays closed. */
 void tebaldi_close(struct tebaldi_store *store);
 
-/* Answers a request of a session, 1 to 32. TEBALDI_NOT_OPEN, TEBALDI_BAD_VERB, TEBALDI_OUT_OF_MEMORY. */
+/* Answers a request of a session, 1 to 32. TEBALDI_NOT_OPEN, TEBALDI_BAD_VERB, TEBALDI_OUT_OF_MEMORY. Of a store of tebaldi_open_image also
+ * TEBALDI_WAITING, TEBALDI_STOPPED, TEBALDI_NO_ROOM and TEBALDI_UNSURE. */
 uint32_t tebaldi_ask(struct tebaldi_store *store, uint8_t session, const struct tebaldi_request *request, struct tebaldi_reply *reply);
 
 /* Finds the number of a name in a list. TEBALDI_NOT_OPEN, TEBALDI_NO_SUCH. */
@@ -244,8 +247,8 @@ uint32_t tebaldi_rows(struct tebaldi_store *store, struct tebaldi_row *out, size
 uint32_t tebaldi_event(struct tebaldi_store *store, size_t place, struct tebaldi_event *event);
 
 /* Copies as much of the printed run of the present epoch as fits to `out`, with no 0 after it: its starting rows, events, serial order and final
- * rows, as `tebaldi threads` prints them; `*len` is the length of the whole text. tebaldi_audit accepts the whole text. Ask with a room of 0
- * for the length first. TEBALDI_NOT_OPEN, TEBALDI_OUT_OF_MEMORY. */
+ * rows, as `tebaldi threads` prints them; `*len` is the length of the whole text. tebaldi_audit accepts the whole text, if it has fewer than
+ * 2^32 - 1 bytes. Ask with a room of 0 for the length first. TEBALDI_NOT_OPEN, TEBALDI_OUT_OF_MEMORY. */
 uint32_t tebaldi_run_text(struct tebaldi_store *store, uint8_t *out, size_t room, size_t *len);
 
 /* Checks a printed run, as `tebaldi audit` does. TEBALDI_TOO_LONG, TEBALDI_OUT_OF_MEMORY.

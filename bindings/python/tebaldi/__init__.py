@@ -12,7 +12,8 @@ A Store is opened from a tree text, which says how each type of transaction is c
 The transaction commits at the end of the block. It is aborted if the block raises an exception. A request that has to wait for
 another transaction sleeps until that one has gone on. An aborted transaction raises Aborted; Store.run starts it anew.
 
-open_file(path, tree) opens a store in a file: a commit is in the file before its block ends, and is there after a crash.
+open_file(path, tree) opens a store in a file: a commit is in the file before its block ends, and is there after a crash if the
+file keeps what was synced.
 
 An epoch of a store has room for 8,192 transactions; Store.next_epoch goes on with its rows.
 

@@ -119,8 +119,8 @@ class Store:
     def open_file(cls, path: Union[str, "os.PathLike[str]"], tree: Union[str, bytes] = b"") -> Store:
         """Opens the store that a file has, or makes the file, and locks it until the store is closed.
 
-        A commit is in the file before its block ends: it is there after a crash of the program or the system. The tree has the tables
-        that the file has, and its rows count only if the file is new.
+        A commit is in the file before its block ends: if the file keeps what was synced, it is there after a crash of the program or the
+        system. The tree has the tables that the file has, and its rows count only if the file is new.
 
         Raises Busy if the file is open as a store already, OSError if it cannot be used, BadFile if it is no store or a damaged one,
         OtherTables, NoRoom and BadTree.
@@ -241,7 +241,8 @@ class Store:
     def run(self, type: str, body: Callable[[Transaction], T], *, instance: int = 0, attempts: int = 100, timeout: float = 10.0) -> T:
         """Runs body(transaction) as a transaction, commits it, and returns what the body returns.
 
-        After an abort the body is called anew, in a new transaction, with at most `attempts` calls: then Aborted is raised.
+        After an abort the body is called anew, in a new transaction, with at most `attempts` calls: then Aborted is raised. It also raises
+        what a Transaction raises, and what the body does.
         """
         for left in range(attempts - 1, -1, -1):
             transaction = self.transaction(type, instance, timeout=timeout)
@@ -258,6 +259,8 @@ class Store:
         """Answers one request of a session, 1 to 32, with the tables and types by number, and without waiting.
 
         `verb` is "begin", "read", "write", "add", "delete", "scan", "prepare", "commit", "abort" or "end".
+
+        Of a store in a file it raises Stopped, and at a commit also NoRoom and Unsure.
         """
         asked = native.RawRequest(native.VERBS.index(verb), _within("type", type, 8), _within("table", table, 8),
                                   _within("count", count, 8), _within("instance", instance, 32), _within("key", key, 32), _value(value))
@@ -288,7 +291,10 @@ class Store:
         return [(tables[row.table], row.key, row.value) for row in rows]
 
     def run_text(self) -> str:
-        """Returns the printed run of the present epoch: its starting rows, events, serial order and final rows. audit() accepts it."""
+        """Returns the printed run of the present epoch: its starting rows, events, serial order and final rows.
+
+        audit() accepts it, if it has fewer than 2^32 - 1 bytes.
+        """
         return bytes(self._filled(LIBRARY.tebaldi_run_text, c_uint8)).decode()
 
     def events(self) -> Iterator[Event]:
@@ -373,7 +379,8 @@ class Transaction:
     """A transaction of a `with` block. Tables are named as in the tree; a value is None if there is no row.
 
     Each request raises Aborted if the transaction was aborted, Refused if it cannot be answered, and Again if it has waited as long
-    as it may. At the first two the transaction is over. At the last nothing has changed.
+    as it may. At the first two the transaction is over. At the last nothing has changed. Of a store in a file each request may also
+    raise Stopped, and the commit at the end of the block NoRoom and Unsure.
 
     `number` is the transaction's number, and `was_aborted` says whether the store has aborted it.
     """

@@ -63,7 +63,7 @@ impl Session {
     /// Begins a transaction. Its calls do not wait: they return [`Error::Again`].
     ///
     /// # Errors
-    /// [`Error::Again`], [`Error::Refused`], [`Error::OutOfMemory`].
+    /// [`Error::Again`], [`Error::Refused`], [`Error::OutOfMemory`]; of a store in a file also [`Error::Stopped`].
     ///
     /// ```
     /// let store = tebaldi::Store::open("")?;
@@ -95,7 +95,8 @@ impl Session {
     ///
     /// # Errors
     /// [`Error::Again`] if a request waited longer than [`Limits::wait`], and [`Error::Aborted`] if the last of
-    /// [`Limits::attempts`] was aborted; [`Error::Refused`], [`Error::OutOfMemory`]; and those of the body.
+    /// [`Limits::attempts`] was aborted; [`Error::Refused`], [`Error::OutOfMemory`]; of a store in a file also [`Error::NoRoom`],
+    /// [`Error::Unsure`] and [`Error::Stopped`]; and those of the body.
     pub fn run<T, E: From<Error>>(
         &mut self,
         kind: Kind,
@@ -138,7 +139,8 @@ impl Session {
 ///
 /// Each call returns [`Error::Again`] if it has to wait (in [`Session::run`] only after it has slept as long as it may): nothing
 /// has changed, and the same call may be made again. At [`Error::Aborted`] and [`Error::Refused`] the transaction is over, and all
-/// later calls return [`Error::Over`].
+/// later calls return [`Error::Over`]. [`Error::OutOfMemory`] changes nothing either. Of a store in a file each call may also return
+/// [`Error::Stopped`], and a commit [`Error::NoRoom`], at which nothing has changed, and [`Error::Unsure`].
 pub struct Txn<'a> {
     session: &'a mut Session,
     number: TxnNumber,

@@ -86,8 +86,8 @@ impl Store {
         }
     }
 
-    /// Opens the store that a file has, or makes the file. A commit is in the file before it is told: it is there after a crash of the
-    /// program or the system. The file is locked until the last clone of the store is dropped.
+    /// Opens the store that a file has, or makes the file. A commit is in the file before it is told: if the file keeps what was synced, it is
+    /// there after a crash of the program or the system. The file is locked until the last clone of the store is dropped.
     ///
     /// The tree has the tables that the file has, and its rows count only if the file is new. Its controls may differ from the last ones.
     ///
@@ -355,7 +355,7 @@ impl Store {
     }
 
     /// The printed run of the present epoch: its starting rows, events, serial order and final rows, as `tebaldi threads` prints them.
-    /// [`audit`] accepts it.
+    /// [`audit`] accepts it, if it has fewer than 2^32 - 1 bytes.
     ///
     /// # Errors
     /// [`Error::OutOfMemory`].

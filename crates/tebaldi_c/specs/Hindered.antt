@@ -13,7 +13,7 @@ use Rattle.tebaldi_c.specs.Shelves.{Filed, ShelfState}
 abbrev pub HasWaiting : Filed → Type 0
 HasWaiting f = 0 < f.file.waiting
 
--- a call on the file has failed, or memory ran out while the store wrote
+-- a call on the file has failed, or one of the disk in memory
 abbrev pub IsStopped : Filed → Type 0
 IsStopped f = (f.file.failed || f.file.journal.stopped) ≡ true
 

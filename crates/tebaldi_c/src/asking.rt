@@ -26,8 +26,8 @@ use teb_rules::names::{Request, Session};
 /// # Errors
 /// `NOT_OPEN`, `BAD_VERB`, `OUT_OF_MEMORY`. Of a store in a file also `WAITING` if calls wait, `STOPPED` if a call on the file has failed,
 /// and `NO_ROOM` if the rest of this epoch's part of the file may not hold the commit. At each of them the store and the reply are
-/// unchanged. `UNSURE` if a commit of a store in a file runs out of memory: the file may have it or not, and the store is stopped; the
-/// reply is unchanged.
+/// unchanged. `UNSURE` if a call of the disk in memory fails at a commit: the store has the commit and is stopped, and the reply is
+/// unchanged. That disk fails only if it is refused memory, and no call is (`EngineStore::ask`, clause `memory`).
 #[unsafe(no_mangle)]
 pub extern "C" fn tebaldi_ask(
     alloc: Global,

@@ -38,7 +38,8 @@ use tree_toml::read_tree;
 /// `NOT_OPEN`. `BAD_TREE` as in `tebaldi_open`. `UNFINISHED` if a transaction is unfinished; else `UNTOLD` if a session was not told of
 /// the abort of its transaction: `who` is the first of them. `OTHER_TABLES`. `OUT_OF_MEMORY`.
 /// Of a store in a file also `WAITING`, and `NO_ROOM` if the rows do not fit the file. At each of them the store is unchanged. `STOPPED` if a
-/// call on the file has failed, or if this call ran out of memory while it wrote: the store is stopped, and its file has the old epoch.
+/// call on the file has failed. The contract also allows it if a call of the disk in memory fails, for which memory is reserved first: then
+/// the store is stopped, and its file has the old epoch.
 #[unsafe(no_mangle)]
 pub extern "C" fn tebaldi_next_epoch(
     alloc: Global,

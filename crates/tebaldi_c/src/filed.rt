@@ -73,7 +73,7 @@ impl FileStore {
         self.kept
     }
 
-    /// True if a call on the file has failed, or a commit ran out of memory. Nothing is asked then.
+    /// True if a call on the file has failed, or one of the disk in memory. Nothing is asked then.
     pub fn is_stopped(&self) -> bool
         ensures { result ≡ self.now.file.failed || self.now.file.journal.stopped }
     {

@@ -15,7 +15,8 @@ use printed_run::printed_run;
 use std::alloc::{AllocError, Global};
 
 /// Copies as much of the printed run of the present epoch as fits to `out`; `len` is the length of the text. It has the starting rows,
-/// the events, the serial order and the final rows, as `threads` prints them. `tebaldi_audit` accepts the whole text.
+/// the events, the serial order and the final rows, as `threads` prints them. `tebaldi_audit` accepts the whole text, if it has fewer than
+/// 2^32 - 1 bytes.
 ///
 /// # Errors
 /// `NOT_OPEN`, `OUT_OF_MEMORY`. At each of them `out` and `len` are unchanged.

@@ -36,7 +36,7 @@ pub const UNFINISHED: u32 = 10;
 /// A session was not told of the abort of its transaction.
 pub const UNTOLD: u32 = 11;
 
-/// A call on the file has failed earlier, or a commit ran out of memory.
+/// A call on the file has failed earlier.
 pub const STOPPED: u32 = 12;
 
 /// The file may have the commit or not.
