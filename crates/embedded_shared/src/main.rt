@@ -4,10 +4,10 @@
 //!
 //! `client` has what every thread needs: it asks again while an older transaction is in the way or an epoch comes to its end, and starts
 //! over if the store aborts its transaction. The store goes on from epoch to epoch as the threads ask it. The program may be killed at any
-//! moment. Whatever transfer it has printed is in the file when it is started again.
+//! moment. Whatever transfer it has printed is in the file when it is started again, if the file keeps what was synced.
 //!
-//! With the word `runs` it prints the run of each epoch of its life, which `recorded` keeps until the end. `tebaldi audit` accepts each of
-//! these texts: the run is serial in the printed order, from the rows that the epoch began with.
+//! With the word `runs` it prints the run of each epoch of its life, which `recorded` keeps until the end. It is proved that `audit` accepts
+//! each of these texts: the run is serial in the printed order, from the rows that the epoch began with.
 #![tactic(auto)]
 
 mod bank;

@@ -101,7 +101,7 @@ impl<D: Renew> EpochServer for Recorded<D> {
         StoreServer::<D>::has_failed(log)
     }
 
-    /// Prints the run of the epoch before the next one begins. If memory is out for it, the epoch does not end.
+    /// Keeps the printed run of the epoch before the next one begins. If memory is out for it, the epoch does not end.
     fn next_epoch(
         self,
         log: EpochJournal<D>,

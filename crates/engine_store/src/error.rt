@@ -8,7 +8,7 @@ use std::alloc::AllocError;
 use teb_rules::names::{Session, Txn};
 use thiserror::Error;
 
-/// Why the next epoch has not begun. The first cause in this order is returned.
+/// Why the next epoch has not begun: the first of `Stopped`, `Again`, `Untold` and `OtherTables` that applies; if none does, one of the others.
 #[derive(Debug, Drop, Error)]
 pub enum NextError {
     /// A call of the disk has failed earlier.

@@ -28,10 +28,10 @@ pub enum OpenFileError {
     /// The capacity is 0, or 2^40 or more.
     #[error("a store in a file has 1 to 2^40 - 1 bytes")]
     BadCapacity,
-    /// The file cannot be opened, locked, read or synced.
+    /// The file is in use or too long, or cannot be opened, locked, read or synced; or memory is out.
     #[error("{0}")]
     File(FileError),
-    /// The tree text is refused, or the file is no store under these tables.
+    /// The tree text is refused, or the store that the file has is not opened.
     #[error("{0}")]
     NotServed(ServeError),
     #[error("out of memory")]

@@ -27,9 +27,10 @@ const MOST_BYTES: u64 = 1 << 40;
 /// hold all rows and the commits of one epoch.
 ///
 /// # Errors
-/// `BadCapacity` if the capacity is out of range; no file is touched. `File` if the file cannot be opened, locked, read or synced; it is
-/// unchanged. `NotServed` if the tree text is refused, or the file is no store under these tables; see `StoreServer::open`.
-/// `OutOfMemory` if there is no memory for the sessions. After each error the file is unlocked, and may be opened again.
+/// `BadCapacity` if the capacity is out of range; no file is touched. `File` if the file is in use, has more bytes than the capacity, or
+/// cannot be opened, locked, read or synced, or memory is out; it is unchanged. `NotServed` if the tree text is refused, the file is no
+/// store under these tables, a call on it fails, or memory is out; see `StoreServer::open`. `OutOfMemory` if there is no memory for the
+/// sessions. After each error the file is unlocked, and may be opened again.
 pub fn open_file<R: Files<File = File>>(
     rt: &R,
     alloc: Global,
