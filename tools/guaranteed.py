@@ -14,7 +14,7 @@ WORDS = {
     "the serial order is the order of the commits": "commit order",
     "an abort takes no other transaction with it": "no cascades",
 }
-READS = r"each read and each scan of (\S+) is granted at once, unless it is refused"
+READS = r"each read and each scan of a running transaction of type (\S+) is granted at once, unless it is refused"
 NOTHING_MORE = "as every tree"
 
 

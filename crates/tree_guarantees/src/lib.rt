@@ -75,8 +75,8 @@ pub fn has_no_cascades(tree: &Tree) -> bool
     true
 }
 
-/// Returns whether every node on the path of a type and an instance is a timestamp or a snapshot node. Then each read and each scan of such a transaction is granted at once,
-/// unless it is refused.
+/// Returns whether every node on the path of a type and an instance is a timestamp or a snapshot node. Then each read and each scan of a running transaction of these is granted
+/// at once, unless it is refused.
 pub fn reads_never_wait(tree: &Tree, spot: Spot) -> bool
     requires { spot.kind.0 < tree.now.types }
     ensures condition { (X : Store) (H : List Event) (t : ℕ) → X.setup.tree ≡ tree.now.rows → spot_of H t ≡ spot → (IsTrue result ↔ ReadsFreely X H t) }

@@ -11,8 +11,8 @@ ghost use Rattle.tree_guarantees.specs.Conditions.{Guarantees, ServesReads, has_
 use store_setup::tree::Tree;
 use teb_rules::names::{ControlKind, Kind, Node};
 
-/// Returns whether the root and every node on the way to a leaf of a type is a timestamp or a snapshot node. Then each read and each scan of a transaction
-/// of the type is granted at once, whatever its instance, unless it is refused.
+/// Returns whether the root and every node on the way to a leaf of a type is a timestamp or a snapshot node. Then each read and each scan of a running
+/// transaction of the type is granted at once, whatever its instance, unless it is refused.
 pub fn type_reads_never_wait(tree: &Tree, kind: Kind) -> bool
     ensures condition { result ≡ type_has_batches tree.now.rows kind.0 }
     ensures guarantee { IsTrue result → (i : ℕ) → Guarantees tree.now.rows (ServesReads (spot kind.0 i)) }

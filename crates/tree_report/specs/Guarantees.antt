@@ -16,7 +16,7 @@ sentence_line holds sentence = line_text (verdict holds ∷ sentence ∷ [])
 
 -- whether the reads of a type wait
 abbrev pub reads_line : Bool → List ℕ → List ℕ
-reads_line holds name = line_text (verdict holds ∷ codes "each read and each scan of" ∷ name ∷ codes "is granted at once, unless it is refused" ∷ [])
+reads_line holds name = line_text (verdict holds ∷ codes "each read and each scan of a running transaction of type" ∷ name ∷ codes "is granted at once, unless it is refused" ∷ [])
 
 abbrev pub type_line : Words → List NodeRow → ℕ → List ℕ
 type_line types T k = reads_line (type_has_batches T k) (name_of types k)

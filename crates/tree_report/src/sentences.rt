@@ -89,7 +89,7 @@ fn put_reads(out: &mut Vec<u8>, holds: bool, name: &str) -> Result<(), AllocErro
         out,
         &Word::Text(verdict(holds)),
         &[
-            Word::Text("each read and each scan of"),
+            Word::Text("each read and each scan of a running transaction of type"),
             Word::Text(name),
             Word::Text("is granted at once, unless it is refused"),
         ],
