@@ -12,7 +12,7 @@ ghost use Rattle.commit_journal.specs.declared.error.BodyError.TheVariants as er
 
 use crate::BodyError;
 use engine_core::Engine;
-use record_journal::{Change, encode};
+use record_journal::{CHANGE_BYTES, Change, FRAME_BYTES, encode};
 use std::alloc::{AllocError, Global};
 use std::collections::BTreeSet;
 use teb_rules::history::{Event, History};
@@ -43,7 +43,7 @@ pub fn body_of<C: Chains>(
         Some(t) => t,
     };
     let puts = puts_of(alloc, engine.history(), t)?;
-    if left < 6 + 14 * puts.len() as u64 {
+    if left < FRAME_BYTES as u64 + CHANGE_BYTES as u64 * puts.len() as u64 {
         return Err(BodyError::Full);
     }
     let changes = record_of(alloc, engine, &puts, t)?;

@@ -21,12 +21,14 @@ pub record LeavesOnlyUntilRenewed {D : Type 0} (seen : D → List ℕ) (faults :
   pub same_bytes : seen new ≡ seen last
   pub same_faults : faults new ≡ faults last
 
--- k calls at most since old, until the disk was renewed, which wrote n bytes at most; new has the same bytes and faults
+-- k calls at most since old, until the disk was renewed, which wrote n bytes at most; new has the same bytes, faults, number of calls and stop
 pub record IsUpToUntilRenewed {D : Type 0} (seen : D → List ℕ) (faults : D → ℕ) (tally : D → Tally) (k n : ℕ) (old new : D) : Type 0 where
   pub last : D
   pub calls : IsUpTo k n (tally old) (tally last)
   pub same_bytes : seen new ≡ seen last
   pub same_faults : faults new ≡ faults last
+  pub same_calls : (tally new).made ≡ (tally last).made
+  pub same_stop : (tally new).promise.stop ≡ (tally last).promise.stop
 
 -- whatever a crash leaves of a disk tells this
 abbrev pub AllTellCommits : {D : Type 0} → (D → List ℕ → Type 0) → Layout → Store → List Event → ℕ → D → Type 0

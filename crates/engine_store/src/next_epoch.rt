@@ -244,6 +244,8 @@ fn renewed<C: Chains, D: Renew>(
     ensures engine { result.engine ≡ store.engine }
     ensures same { (result.journal.layout ≡ store.journal.layout) × (result.journal.acknowledged ≡ store.journal.acknowledged) × (result.journal.stopped ≡ store.journal.stopped) }
     ensures seen { D.seen result.journal.disk ≡ D.seen store.journal.disk }
+    ensures made { (D.tally result.journal.disk).made ≡ (D.tally store.journal.disk).made }
+    ensures stop { (D.tally result.journal.disk).promise.stop ≡ (D.tally store.journal.disk).promise.stop }
     ensures faults { D.faults result.journal.disk ≡ D.faults store.journal.disk }
     ensures refusals { D.refusals result.journal.disk ≡ D.refusals store.journal.disk }
 {

@@ -1,6 +1,6 @@
 //! How the next epoch begins in the two halves of a store.
 
-ghost use Rattle.std.specs.Prelude.{◌≡◌, ◌+◌, ◌++◌, ◌∷◌, [], true, false, IfOk, IfErr, OnOk, OnErr, IsErrOf, MatchResult, List, ℕ};
+ghost use Rattle.std.specs.Prelude.{◌≡◌, ◌+◌, ◌*◌, ◌++◌, ◌∷◌, [], true, false, IfOk, IfErr, OnOk, OnErr, IsErrOf, MatchResult, List, ℕ, length};
 ghost use Rattle.teb_io.specs.Faults.{Rose};
 ghost use Rattle.teb_rules.specs.declared.names.Cell.{Cell as TheCell};
 ghost use Rattle.teb_rules.specs.declared.history.Event.{Event};
@@ -11,12 +11,13 @@ ghost use Rattle.store_setup.specs.Sound.{IsWhole};
 ghost use Rattle.engine_core.specs.EngineModel.{EngineModel, IsOfEngine};
 ghost use Rattle.tree_switch.specs.Courses.{IsCourse};
 ghost use Rattle.tree_switch.specs.Starts.{IsStarted};
+ghost use Rattle.crash_disk.specs.Calls.{IsUpTo};
 ghost use Rattle.crash_disk.specs.Disk.{LeavesOnly};
 ghost use Rattle.epoch_journal.specs.Layout.{half_size};
 ghost use Rattle.engine_store.specs.Halves.{KeepsCommits};
 ghost use Rattle.engine_store.specs.Lives.{Epoch, IsLife, epoch_of};
-ghost use Rattle.engine_store.specs.Next.{IsCause, MayFollow};
-ghost use Rattle.engine_store.specs.Telling.{LeavesOnlyUntilRenewed, TellsCommits};
+ghost use Rattle.engine_store.specs.Next.{IsCause, MayFollow, WritesFinalRows};
+ghost use Rattle.engine_store.specs.Telling.{IsUpToUntilRenewed, LeavesOnlyUntilRenewed, TellsCommits};
 ghost use Rattle.engine_store.specs.declared.error.NextError.TheVariants as errors;
 
 use crate::error::NextError;
@@ -60,11 +61,16 @@ impl<C: Chains> EngineQueue<C> {
         ensures begun { IfOk result.2 (λ past. (past ≡ self.engine) × IsStarted setup self.engine result.0.engine × (result.0.waiting ≡ [])) }
         ensures left { OnOk result.2 (result.0.left + result.1.end ≡ half_size result.1.layout.capacity) }
         ensures running { OnOk result.2 (result.1.stopped ≡ false) }
+        ensures ran { IsErrOf result.2 errors.Stopped → ⊥ }
         ensures back { OnErr result.2 (result.0 ≡ self) }
         ensures same { IfErr result.2 (λ why. (why ≡ errors.DiskFault → ⊥) → result.1 ≡ journal) }
         ensures fault { IsErrOf result.2 errors.DiskFault → (result.1.stopped ≡ true) × Rose (D.faults journal.disk) (D.faults result.1.disk) }
         ensures layout { result.1.layout ≡ journal.layout }
         ensures memory { D.refusals result.1.disk ≡ D.refusals journal.disk }
+
+        // At most four calls of the disk, which write the label, the rows, and the byte that makes their half current.
+        ensures calls { OnOk result.2 (IsUpToUntilRenewed D.seen D.faults D.tally 4 (11 + length journal.layout.label + 14 * length result.0.engine.store.rows) journal.disk result.1.disk) }
+        ensures calls_back { IsErrOf result.2 errors.DiskFault → WritesFinalRows journal.layout self.engine (D.tally journal.disk) (D.tally result.1.disk) }
 
         // What the journal keeps: the rows of the next engine, and no commit; or what it kept.
         ensures kept { (n : ℕ) → KeepsCommits D.seen D.may_leave self.engine.store self.engine.events n journal
@@ -114,11 +120,14 @@ fn begin_in<C: Chains, D: Disk>(
     ensures engine { OnOk result (IsOfEngine queue.new.engine.engine) }
     ensures left { OnOk result (queue.new.left + journal.new.end ≡ half_size journal.new.layout.capacity) }
     ensures running { OnOk result (journal.new.stopped ≡ false) }
+    ensures ran { IsErrOf result errors.Stopped → ⊥ }
     ensures back { OnErr result (queue.new ≡ queue.old) }
     ensures same { IfErr result (λ why. (why ≡ errors.DiskFault → ⊥) → journal.new ≡ journal.old) }
     ensures fault { IsErrOf result errors.DiskFault → (journal.new.stopped ≡ true) × Rose (D.faults journal.old.disk) (D.faults journal.new.disk) }
     ensures layout { journal.new.layout ≡ journal.old.layout }
     ensures memory { D.refusals journal.new.disk ≡ D.refusals journal.old.disk }
+    ensures calls { OnOk result (IsUpTo 4 (11 + length journal.old.layout.label + 14 * length queue.new.engine.engine.store.rows) (D.tally journal.old.disk) (D.tally journal.new.disk)) }
+    ensures calls_back { IsErrOf result errors.DiskFault → WritesFinalRows journal.old.layout queue.old.engine.engine (D.tally journal.old.disk) (D.tally journal.new.disk) }
     ensures kept { (n : ℕ) → KeepsCommits D.seen D.may_leave queue.old.engine.engine.store queue.old.engine.engine.events n journal.old
         → OnOk result (KeepsCommits D.seen D.may_leave queue.new.engine.engine.store [] 0 journal.new) }
     ensures not_begun { (n : ℕ) → KeepsCommits D.seen D.may_leave queue.old.engine.engine.store queue.old.engine.engine.events n journal.old
@@ -141,6 +150,8 @@ fn renewed<D: Renew>(alloc: Global, journal: EpochJournal<D>) -> EpochJournal<D>
     ensures kept { (X : Store) (H : List Event) (n : ℕ) → KeepsCommits D.seen D.may_leave X H n journal → KeepsCommits D.seen D.may_leave X H n result }
     ensures same { (result.layout ≡ journal.layout) × (result.end ≡ journal.end) × (result.stopped ≡ journal.stopped) }
     ensures seen { D.seen result.disk ≡ D.seen journal.disk }
+    ensures made { (D.tally result.disk).made ≡ (D.tally journal.disk).made }
+    ensures stop { (D.tally result.disk).promise.stop ≡ (D.tally journal.disk).promise.stop }
     ensures faults { D.faults result.disk ≡ D.faults journal.disk }
     ensures refusals { D.refusals result.disk ≡ D.refusals journal.disk }
 {

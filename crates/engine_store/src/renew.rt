@@ -19,6 +19,8 @@ impl<C: Chains, D: Renew> EngineStore<C, D> {
         ensures same { IfOk result (λ s. (s.journal.layout ≡ self.journal.layout) × (s.journal.first ≡ self.journal.first) × (s.journal.end ≡ self.journal.end)
             × (s.journal.acknowledged ≡ self.journal.acknowledged) × (s.journal.stopped ≡ self.journal.stopped)) }
         ensures seen { IfOk result (λ s. D.seen s.journal.disk ≡ D.seen self.journal.disk) }
+        ensures made { IfOk result (λ s. (D.tally s.journal.disk).made ≡ (D.tally self.journal.disk).made) }
+        ensures stop { IfOk result (λ s. (D.tally s.journal.disk).promise.stop ≡ (D.tally self.journal.disk).promise.stop) }
         ensures faults { IfOk result (λ s. D.faults s.journal.disk ≡ D.faults self.journal.disk) }
         ensures refusals { IfOk result (λ s. D.refusals s.journal.disk ≡ D.refusals self.journal.disk) }
         // A crash after it.

@@ -1,6 +1,6 @@
 //! How a journal in epochs grows.
 
-ghost use Rattle.std.specs.Prelude.{◌≡◌, ◌+◌, ◌<◌, ◌≤◌, ◌++◌, ◌∷◌, [], List, ℕ, length, true, false, IfOk, OnOk, OnErr};
+ghost use Rattle.std.specs.Prelude.{◌≡◌, ◌+◌, ◌<◌, ◌≤◌, ◌^◌, ◌++◌, ◌∷◌, [], List, ℕ, length, true, false, IfOk, OnOk, OnErr};
 ghost use Rattle.teb_io.specs.Faults.{HasCause};
 ghost use Rattle.teb_rules.specs.Replay.{Values};
 ghost use Rattle.crash_disk.specs.Calls.{AreCalls};
@@ -177,6 +177,7 @@ impl<D: Disk> EpochJournal<D> {
     pub fn left(&self) -> u64
         ensures left { result + self.now.end ≡ half_size self.now.layout.capacity }
         ensures some { 0 < result }
+        ensures small { result < 2 ^ 32 }
     {
         half_bytes(self.capacity) - self.place.end
     }

@@ -19,6 +19,8 @@ impl<D: Renew> EpochJournal<D> {
         ensures kept { (start : Values) (all : List Record) (least : ℕ) → Keeps D.seen D.may_leave start all least self → IfOk result (λ j. Keeps D.seen D.may_leave start all least j) }
         ensures same { IfOk result (λ j. (j.layout ≡ self.layout) × (j.first ≡ self.first) × (j.end ≡ self.end) × (j.acknowledged ≡ self.acknowledged) × (j.stopped ≡ self.stopped)) }
         ensures seen { IfOk result (λ j. D.seen j.disk ≡ D.seen self.disk) }
+        ensures made { IfOk result (λ j. (D.tally j.disk).made ≡ (D.tally self.disk).made) }
+        ensures stop { IfOk result (λ j. (D.tally j.disk).promise.stop ≡ (D.tally self.disk).promise.stop) }
         ensures faults { IfOk result (λ j. D.faults j.disk ≡ D.faults self.disk) }
         ensures refusals { IfOk result (λ j. D.refusals j.disk ≡ D.refusals self.disk) }
         ensures back { IfErr result (λ j. j ≡ self) }

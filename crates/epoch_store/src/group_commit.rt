@@ -17,7 +17,7 @@ ghost use Rattle.epoch_store.specs.declared.error.AskError.TheVariants as errors
 
 use crate::error::AskError;
 use crate::recorder::Recorder;
-use crate::store::{EpochStore, MOST_LEFT, body_and_memory};
+use crate::store::{EpochStore, body_and_memory};
 use crash_disk::{Disk, Memory};
 use epoch_journal::{EpochJournal, Group};
 use std::alloc::Global;
@@ -217,7 +217,7 @@ fn gathered<E: Recorder, D: Disk>(
     ensures unchanged { OnErr result (engine.new ≡ engine.old) }
 {
     let waiting = group.size();
-    let left = (journal.left() - waiting as u64).min(MOST_LEFT);
+    let left = journal.left() - waiting as u64;
     let (body, memory) = match body_and_memory(
         alloc, engine, journal, waiting, left, session, request,
     ) {

@@ -7,6 +7,7 @@ ghost use Rattle.teb_rules.specs.declared.names.Reply.TheVariants as replies;
 ghost use Rattle.teb_rules.specs.names.Rows.{row_of};
 ghost use Rattle.teb_rules.specs.Answer.{answer};
 ghost use Rattle.teb_rules.specs.Replay.{Values};
+ghost use Rattle.crash_disk.specs.Calls.{IsUpTo};
 ghost use Rattle.crash_disk.specs.Disk.{LeavesOnly};
 ghost use Rattle.record_journal.specs.Format.{Record};
 ghost use Rattle.record_journal.specs.Journal.{after_records};
@@ -170,6 +171,7 @@ impl<E: Recorder> CommitQueue<E> {
             → half_size journal.old.layout.capacity < 10 + length journal.old.layout.label + 14 * length (E.store next).rows) }
         ensures layout { journal.new.layout ≡ journal.old.layout }
         ensures memory { D.refusals journal.new.disk ≡ D.refusals journal.old.disk }
+        ensures calls { IsUpTo 4 (11 + length journal.old.layout.label + 14 * length (E.store next).rows) (D.tally journal.old.disk) (D.tally journal.new.disk) }
     {
         match begin_with(alloc, journal, &next) {
             Ok(()) => {

@@ -29,9 +29,6 @@ use std::mem;
 use teb_io::Failed;
 use teb_rules::names::{Reply, Request, Session};
 
-/// No record has more bytes, since it counts its changes in four.
-pub(crate) const MOST_LEFT: u64 = 4_294_967_295;
-
 /// A store whose commits are kept on a disk. Whatever a crash leaves, now and at any moment of a call, has the rows after the first k of
 /// the commits of this epoch, applied to the rows that the epoch began with; k is no less than the number of commits that were answered.
 #[derive(Drop)]
@@ -262,7 +259,7 @@ fn prepared<E: Recorder, D: Disk>(
     ensures only { IfErr result (λ e. (e ≡ errors.Full) ⊎ (e ≡ errors.OutOfMemory)) }
     ensures unchanged { OnErr result (engine.new ≡ engine.old) }
 {
-    let left = journal.left().min(MOST_LEFT);
+    let left = journal.left();
     let (body, memory) = match body_and_memory(alloc, engine, journal, 0, left, session, request) {
         Ok(found) => found,
         Err(error) => return Err(error),

@@ -12,7 +12,7 @@ use teb_rules::names::{ControlKind, Names, Node};
 use toml::Table;
 
 /// The size of a batch, if it is not given.
-const USUAL_BATCH: u16 = 64;
+pub(crate) const USUAL_BATCH: u16 = 64;
 
 /// Returns the control of a node.
 ///

@@ -8,6 +8,7 @@ ghost use Rattle.tree_toml.specs.SetupText.{plain as spec_plain, plain_row};
 ghost use Rattle.store_setup.specs.SetupView.{setup_view};
 
 use crate::fault::TreeText;
+use crate::node_fields::USUAL_BATCH;
 use crate::trees::grow;
 use std::alloc::{AllocError, Global};
 use store_setup::Setup;
@@ -89,7 +90,7 @@ fn plain_rows(alloc: Global) -> Result<Vec<NodeRow>, AllocError>
         control: ControlKind::Locks,
         parent: None,
         types,
-        batch: 64,
+        batch: USUAL_BATCH,
         ordered: false,
         part: 0,
         of: 1,

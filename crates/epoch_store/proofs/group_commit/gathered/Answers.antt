@@ -9,12 +9,10 @@ pub returns-in-Err-clause-full : goal.returns-in-Err-clause-full
 returns-in-Err-clause-full g c is =
     let e = g.E.Recorder in
     let j = c.args.journal.now in
-    let left : c.min-left.result ≡ half_size j.layout.capacity - (j.end + size_of c.args.group.now.records) = omega (
+    let left : c.left.result - c.size-waiting.result ≡ half_size j.layout.capacity - (j.end + size_of c.args.group.now.records) = omega (
       arith,
-      c.min-left.ensures,
       c.left.ensures.left,
       c.size-waiting.ensures,
-      small_half j.layout.capacity,
     ) in
     subst (λ (n : ℕ). e.lacks c.args.engine.now n c.args.session c.args.request) left (c.in-Err.ensures.full (still_full c.in-Err.error is))
 
@@ -22,12 +20,10 @@ pub returns-clause-room : goal.returns-clause-room
 returns-clause-room g c lacks =
     let e = g.E.Recorder in
     let j = c.args.journal.now in
-    let left : c.min-left.result ≡ half_size j.layout.capacity - (j.end + size_of c.args.group.now.records) = omega (
+    let left : c.left.result - c.size-waiting.result ≡ half_size j.layout.capacity - (j.end + size_of c.args.group.now.records) = omega (
       arith,
-      c.min-left.ensures,
       c.left.ensures.left,
       c.size-waiting.ensures,
-      small_half j.layout.capacity,
     ) in
     absurd (c.in-Ok.ensures.room (subst (λ (n : ℕ). e.lacks c.args.engine.now n c.args.session c.args.request) (sym left) lacks))
 
