@@ -46,6 +46,7 @@ mod hosted;
 mod make;
 mod outfit;
 mod pass;
+mod place;
 mod poll;
 mod published;
 mod serve;

@@ -9,7 +9,7 @@ ghost use Rattle.session_server.specs.Growth.{own_of};
 ghost use Rattle.session_server.specs.Turning.{TakesTurn, SeesMore};
 ghost use Rattle.session_server.specs.Waits.{WaitsAmong};
 
-use crate::door::{Door, Next};
+use crate::door::{Caller, Door};
 use crate::hosted::Hosted;
 use crate::published::publish_since;
 use hall_server::{Failure, Server};
@@ -36,14 +36,14 @@ pub(crate) fn take_turn<S: Server, R: Wait>(
     ensures waits { (r : TheReply) → told result ≡ Some r → WaitsAmong MOST_TXNS r }
     ensures unsure { (r : TheReply) → IsErrOf result (failures.Unsure r) → S.unsure r }
 {
-    let inside = door.enter(rt, session);
+    let inside = door.enter(rt, Caller::new(session, request));
     let mut hosted = turn.enter(rt, seat);
     let before = hosted.server.history().len();
     let answer = hosted.ask(session, request);
     prove!(before <= hosted.server.history().len());
     publish_since(turn, seat, &hosted, before);
-    let next = Next::after(session, hosted.entries.last());
+    let live = hosted.server.history().live().len();
     turn.leave(seat, hosted);
-    door.leave(inside, next);
+    door.leave(inside, session, &answer, live);
     answer
 }
