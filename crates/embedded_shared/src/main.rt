@@ -22,7 +22,7 @@ use bank::{report, tree};
 use client::{Work, run_client};
 use file_disk::FileDisk;
 use recorded::Recorded;
-use shared_store::{Closed, EpochServer, Store, StoreSession};
+use shared_store::{Closed, EpochServer, NoCheckpoint, Store, StoreSession};
 use std::alloc::Global;
 use std::env;
 use std::fs::{File, Files};
@@ -59,8 +59,8 @@ fn main(rt: HostRuntime) -> anyhow::Result<()> {
         return run_recorded(&rt, alloc, &path, bytes, clients, work);
     }
     let (store, sessions) = open_file(&rt, alloc, &path, bytes, tree(alloc)?)?;
-    let (server, is_checkpointed) = share(&rt, alloc, store, sessions, clients, work);
-    println!(rt; "closed with a checkpoint: {is_checkpointed}")?;
+    let (server, checkpoint) = share(&rt, alloc, store, sessions, clients, work);
+    print_closing(&rt, checkpoint)?;
     report(&rt, alloc, server.engine(), work.is_loud)
 }
 
@@ -87,14 +87,23 @@ fn run_recorded<R: Files<File = File> + Threads + Wait + Clock + Print + Sync>(
         println!(rt; "out of memory")?;
         return Ok(());
     };
-    let (recorded, is_checkpointed) = share(rt, alloc, store, sessions, clients, work);
+    let (recorded, checkpoint) = share(rt, alloc, store, sessions, clients, work);
     recorded.print(rt, alloc)?;
-    println!(rt; "closed with a checkpoint: {is_checkpointed}")?;
+    print_closing(rt, checkpoint)?;
     report(rt, alloc, recorded.into_server().engine(), work.is_loud)
 }
 
-/// Shares a store among that many clients until they are done, and closes it. Returns the server, and whether there is a checkpoint of its
-/// rows.
+/// Prints whether the store was closed with a checkpoint, and if not, why.
+fn print_closing(rt: &impl Print, checkpoint: Result<(), NoCheckpoint>) -> anyhow::Result<()> {
+    println!(rt; "closed with a checkpoint: {}", checkpoint.is_ok())?;
+    if let Err(why) = checkpoint {
+        println!(rt; "{why}")?;
+    }
+    Ok(())
+}
+
+/// Shares a store among that many clients until they are done, and closes it. Returns the server, and why there is no checkpoint of its
+/// rows, if there is none.
 fn share<S: EpochServer + Send + Drop, R: Threads + Wait + Clock + Print + Sync>(
     rt: &R,
     alloc: Global,
@@ -102,7 +111,7 @@ fn share<S: EpochServer + Send + Drop, R: Threads + Wait + Clock + Print + Sync>
     mut sessions: Vec<StoreSession<S>>,
     clients: usize,
     work: Work,
-) -> (S, bool)
+) -> (S, Result<(), NoCheckpoint>)
 where
     S::Log: Send + Drop,
     requires sessions { All (IsNew store) sessions.items }
@@ -111,10 +120,10 @@ where
     run_clients(rt, alloc, &store, &mut sessions, clients, work);
     let Closed {
         server,
-        is_checkpointed,
+        checkpoint,
         ..
     } = store.close(alloc, sessions);
-    (server, is_checkpointed)
+    (server, checkpoint)
 }
 
 /// Runs that many clients, each with a session and in a thread of its own. The other sessions ask nothing.

@@ -16,7 +16,7 @@ use Rattle.shared_store.specs.Stages.{Stage}
 use Rattle.shared_store.specs.Lives.{IsMarkOf, calls_of, owner_of, taken_of}
 use Rattle.shared_store.specs.Turning.{Adds, AddsAsked, AddsCall, AddsMarks, AddsResult, GrowsBy}
 use Rattle.shared_store.proofs.Calls.{calls_append, for_other, none_calls}
-use Rattle.shared_store.proofs.Courses.{taken_behind}
+use Rattle.shared_store.proofs.Courses.{stop_behind, taken_behind}
 
 all_append : (P : LifeEntry → Type 0) (xs ys : List LifeEntry) → All P xs → All P ys → All P (xs ++ ys)
 all_append P [] ys a b = b
@@ -83,7 +83,7 @@ pub grows_none : (n : ℕ) (old : List LifeEntry) → GrowsBy n old old
 grows_none n old = record { more = []; is = sym (append-nil old); mine = All_none (λ (e : LifeEntry). owner_of e ≡ n) }
 
 pub no_calls : (old : List LifeEntry) → AddsNoCalls old old
-no_calls old = record { more = []; is = sym (append-nil old); calls = λ n. refl; owned = All_none (λ (e : LifeEntry). owner_of e ≡ LOG_SEAT) }
+no_calls old = record { more = []; is = sym (append-nil old); calls = λ n. refl; owned = All_none (λ (e : LifeEntry). owner_of e ≡ LOG_SEAT); runs = refl }
 
 pub no_calls_taken : (old new : List LifeEntry) → new ≡ old ++ Taken ∷ [] → AddsNoCalls old new
 no_calls_taken old new is = record {
@@ -91,6 +91,7 @@ no_calls_taken old new is = record {
   is = is;
   calls = λ n. refl;
   owned = All_cons (λ (e : LifeEntry). owner_of e ≡ LOG_SEAT) Taken [] refl (All_none (λ (e : LifeEntry). owner_of e ≡ LOG_SEAT));
+  runs = refl;
 }
 
 pub no_calls_turned : (old new : List LifeEntry) → new ≡ old ++ Turned ∷ [] → AddsNoCalls old new
@@ -99,10 +100,11 @@ no_calls_turned old new is = record {
   is = is;
   calls = λ n. refl;
   owned = All_cons (λ (e : LifeEntry). owner_of e ≡ LOG_SEAT) Turned [] refl (All_none (λ (e : LifeEntry). owner_of e ≡ LOG_SEAT));
+  runs = refl;
 }
 
 pub no_calls_same : (old new : List LifeEntry) → new ≡ old → AddsNoCalls old new
-no_calls_same old new is = record { more = []; is = is ∙ sym (append-nil old); calls = λ n. refl; owned = All_none (λ (e : LifeEntry). owner_of e ≡ LOG_SEAT) }
+no_calls_same old new is = record { more = []; is = is ∙ sym (append-nil old); calls = λ n. refl; owned = All_none (λ (e : LifeEntry). owner_of e ≡ LOG_SEAT); runs = refl }
 
 pub no_calls_on : (old mid new : List LifeEntry) → AddsNoCalls old mid → AddsNoCalls mid new → AddsNoCalls old new
 no_calls_on old mid new p q = record {
@@ -110,6 +112,7 @@ no_calls_on old mid new p q = record {
   is = q.is ∙ (ap (λ (l : List LifeEntry). l ++ q.more) p.is ∙ append_assoc old p.more q.more);
   calls = λ n. calls_append n p.more q.more ∙ (ap (λ (l : List LifeEntry). l ++ calls_of n q.more) (p.calls n) ∙ q.calls n);
   owned = all_append (λ (e : LifeEntry). owner_of e ≡ LOG_SEAT) p.more q.more p.owned q.owned;
+  runs = stop_behind p.more q.more (p.more ++ q.more) refl q.runs ∙ p.runs;
 }
 
 -- what is asked for a session at the closing
@@ -123,6 +126,7 @@ module _ (first : Stage) (by s : Session) (q : Request) (old new : List LifeEntr
     is = a.is;
     calls = λ n. none_calls by s q a.short n apart;
     owned = All_cons (λ (e : LifeEntry). owner_of e ≡ LOG_SEAT) (Asked by s q a.short) [] seat (All_none (λ (e : LifeEntry). owner_of e ≡ LOG_SEAT));
+    runs = refl;
   }
   closes_for (Err f) a = no_calls_same old new a
 

@@ -26,7 +26,7 @@ use Rattle.shared_store.specs.declared.session.StoreSession.{StoreSession}
 use Rattle.shared_store.specs.declared.session.TheConstants.{MOST_ASKS, MOST_TURNS}
 use Rattle.shared_store.specs.Keeping.{place_of}
 use Rattle.shared_store.specs.Known.{IsFresh, IsFreshLog, Knows, KnowsLog}
-use Rattle.shared_store.specs.Lives.{Runs, taken_of}
+use Rattle.shared_store.specs.Lives.{Runs, has_stop, taken_of}
 use Rattle.shared_store.specs.Places.{Place}
 use Rattle.shared_store.specs.Seated.{IsKeptAt, IsLogSeat}
 use Rattle.shared_store.specs.Served.{Standing}
@@ -93,6 +93,7 @@ log_keeps keep x b v w is none e f k = record {
         keeps = subst (λ (H : List Event). keep x.store H 0) (sym none) q;
         counted = (let y : 0 ≡ 0 + 0 = omega arith in y);
         all = λ _. sym (no_commits x.events none);
+        runs = λ _. ap (λ (l : List LifeEntry). has_stop l) s;
       });
 }
 

@@ -37,7 +37,7 @@ use Rattle.shared_store.specs.Sharing.{number_of, told, IsWithin}
 use Rattle.shared_store.specs.Stages.{Stage}
 use Rattle.shared_store.specs.Totals.{total_in, writer_of}
 use Rattle.shared_store.proofs.Calls.{calls_append, others_none}
-use Rattle.shared_store.proofs.Courses.{others_take_none, taken_behind}
+use Rattle.shared_store.proofs.Courses.{others_stop_none, others_take_none, stop_behind, taken_behind}
 use Rattle.shared_store.proofs.Keeping.{kept_still}
 use Rattle.shared_store.proofs.Settling.{total_more}
 
@@ -152,7 +152,7 @@ module _ {V L B : Type 0} {g : Ghosts V L B} where
       kept_at_end keep failed total v e own q =
           let f = subst (λ (u : View LifeEntry Stage). Follows entries_in owner_of note_in first_of u x) e given_follows in
           kept_still keep (first_of x) failed failed total v.seen (entries_in x) (ap taken_of f.goes.is ∙ taken_behind v.seen f.goes.more (others_take_none v.owners f.goes.more own f.goes.others))
-          (λ y. y) (q.kept (first_of x) f.has_base)
+          (λ y. y) (λ _. stop_behind v.seen f.goes.more (entries_in x) f.goes.is (others_stop_none v.owners f.goes.more own f.goes.others)) (q.kept (first_of x) f.has_base)
 
   -- the list begins with what each session has seen
   within : (x : Hosted V L B g) (t : Turn (Hosted V L B g) LifeEntry Stage) (life : List LifeEntry) → AddsNoCalls (entries_in x) life → (ps : List (StoreSession V L B g))

@@ -11,13 +11,13 @@ use Rattle.turn_lock.specs.declared.view.View.{View}
 use Rattle.shared_store.specs.declared.entry.LifeEntry.{LifeEntry}
 use Rattle.shared_store.specs.declared.kept.Kept.{Kept}
 use Rattle.shared_store.specs.Stages.{Stage, commits_at}
-use Rattle.shared_store.specs.Lives.{Runs, taken_of}
+use Rattle.shared_store.specs.Lives.{LeadsTo, Runs, has_stop, taken_of}
 use Rattle.shared_store.specs.Ending.{IsKeptAfter}
 use Rattle.shared_store.specs.Holding.{IsBrought, IsKept}
 use Rattle.shared_store.specs.Seated.{IsKeptAt, IsLogSeat}
 use Rattle.shared_store.specs.Gaining.{LogTurn, TakesBatch, TakesNone}
 use Rattle.shared_store.specs.Totals.{total_in}
-use Rattle.shared_store.proofs.Courses.{runs_once}
+use Rattle.shared_store.proofs.Courses.{runs_once, still_runs}
 use Rattle.shared_store.proofs.Results.{on_err, on_ok}
 
 total_last : (ks : List Kept) (k : Kept) → total_in (ks ++ k ∷ []) ≡ max (total_in ks) k.total
@@ -54,7 +54,15 @@ module _ (keep then_keep : Store → List Event → ℕ → Type 0) (brings : St
           (h y.after.standing.store y.before.standing.events y.after.standing.events (kept_before x y) y.brought)
 
       pub kept_ok : ∥ IsKept then_keep first false commits new ∥₁
-      kept_ok = ∥∥₁_map₂ k q (λ x y. record { taken = y.after; leads = y.ends; count = commit_count y.after.standing.events; keeps = (ok_at x y).1; counted = y.counted; all = λ _. refl })
+      kept_ok = ∥∥₁_map₂ k q (λ x y. record {
+        taken = y.after;
+        leads = y.ends;
+        count = commit_count y.after.standing.events;
+        keeps = (ok_at x y).1;
+        counted = y.counted;
+        all = λ _. refl;
+        runs = λ _. y.runs (x.runs refl);
+      })
 
       pub runs_ok : failed ≡ false
       runs_ok = ∥∥₁_elim k (hlevel props) (λ x. ∥∥₁_elim q (hlevel props) (λ y. (ok_at x y).0))
@@ -79,6 +87,7 @@ module _ (keep then_keep : Store → List Event → ℕ → Type 0) (brings : St
         keeps = (err_at x y).1;
         counted = was x y ∙ ap (λ n. n + commit_count y.before.standing.events) y.past;
         all = λ z. absurd (true≢false z);
+        runs = λ z. absurd (true≢false z);
       })
 
       pub runs_err : failed ≡ true
@@ -86,14 +95,15 @@ module _ (keep then_keep : Store → List Event → ℕ → Type 0) (brings : St
 
 -- a log keeps the same of a list of which no more was taken
 pub kept_still : (keep : Store → List Event → ℕ → Type 0) (first : Stage) (failed now_failed : Bool) (total : ℕ) (old new : List LifeEntry) → taken_of new ≡ taken_of old
-    → (now_failed ≡ false → failed ≡ false) → ∥ IsKept keep first failed total old ∥₁ → ∥ IsKept keep first now_failed total new ∥₁
-kept_still keep first failed now_failed total old new e f k = ∥∥₁_map k (λ x. record {
+    → (now_failed ≡ false → failed ≡ false) → (now_failed ≡ false → has_stop new ≡ has_stop old) → ∥ IsKept keep first failed total old ∥₁ → ∥ IsKept keep first now_failed total new ∥₁
+kept_still keep first failed now_failed total old new e f s k = ∥∥₁_map k (λ x. record {
   taken = x.taken;
   leads = subst (λ (l : List LifeEntry). Runs first l x.taken) (sym e) x.leads;
   count = x.count;
   keeps = x.keeps;
   counted = x.counted;
   all = λ z. x.all (f z);
+  runs = λ z. s z ∙ x.runs (f z);
 })
 
 -- the same facts, of what a seat has seen
@@ -115,7 +125,7 @@ module _ (keep then_keep : Store → List Event → ℕ → Type 0) (brings : St
 
     pub kept_at_err : (x : View LifeEntry Stage) → x.base ≡ w.base → TakesNone w x → IsKeptAt then_keep true total x
     kept_at_err x b2 none = record {
-      kept = λ b z. kept_still then_keep b true true total w.seen x.seen none.same (λ y. y)
+      kept = λ b z. kept_still then_keep b true true total w.seen x.seen none.same (λ y. y) (λ y. absurd (true≢false y))
           (kept_err keep then_keep brings b total commits v.seen w.seen (k.kept b (sym base ∙ (sym b2 ∙ z))) (q.brought b (sym base ∙ (sym b2 ∙ z))) failed o f e h);
     }
 
@@ -129,30 +139,15 @@ log_seat_on_two n m v w x l t u s = log_seat_on (m + 1) m w x (let z : m + 1 ≤
 pub kept_of : (keep : Store → List Event → ℕ → Type 0) (failed : Bool) (total : ℕ) (v : View LifeEntry Stage) → failed ≡ false → IsKeptAt keep failed total v → IsKeptAt keep false total v
 kept_of keep failed total v e k = subst (λ f. IsKeptAt keep f total v) e k
 
--- what the log keeps after a write, whether it succeeded or not
-pub kept_either : (keep then_keep : Store → List Event → ℕ → Type 0) (brings : Store → List Event → List Event → Type 0) (first : Stage) (total commits : ℕ) (old new : List LifeEntry) {F : Type 0}
-    → (failed : Bool) → failed ≡ false → ∥ IsKept keep first failed total old ∥₁ → ∥ IsBrought brings first commits old new ∥₁ → (now_failed : Bool) (o : Result (Unit {0}) F)
-    → ((X : Store) (H G : List Event) → keep X H (commit_count H) → brings X H G → OnOk o ((now_failed ≡ false) × then_keep X G (commit_count G)))
-    → ((X : Store) (H G : List Event) → keep X H (commit_count H) → brings X H G → OnErr o ((now_failed ≡ true) × then_keep X G (commit_count H)))
-    → IsKeptAfter then_keep first now_failed total new
-kept_either keep then_keep brings first total commits old new {F} failed f kept q now_failed o ok err = go o refl
-  where
-    k : ∥ IsKept keep first false total old ∥₁
-    k = subst (λ b. ∥ IsKept keep first b total old ∥₁) f kept
+-- a log that keeps the first `total` commits keeps the first `least` ones, whether it has failed since or not
+pub kept_after : (keep : Store → List Event → ℕ → Type 0) (first : Stage) (failed : Bool) (least total : ℕ) (es : List LifeEntry) → least ≤ total → ∥ IsKept keep first false total es ∥₁
+    → IsKeptAfter keep first failed least es
+kept_after keep first failed least total es l k = record { total = total; kept = kept_still keep first false failed total es es refl (λ _. refl) (λ _. refl) k; enough = l }
 
-    go : (p : Result (Unit {0}) F) → o ≡ p → IsKeptAfter then_keep first now_failed total new
-    go (Ok u) e = record {
-      total = commits;
-      kept = subst (λ b. ∥ IsKept then_keep first b commits new ∥₁) (sym (runs_ok keep then_keep brings first total commits old new k q now_failed o u e ok))
-          (kept_ok keep then_keep brings first total commits old new k q now_failed o u e ok);
-      enough = less keep then_keep brings first total commits old new k q now_failed o;
-    }
-    go (Err x) e = record {
-      total = total;
-      kept = subst (λ b. ∥ IsKept then_keep first b total new ∥₁) (sym (runs_err keep then_keep brings first total commits old new k q now_failed o x e err))
-          (kept_err keep then_keep brings first total commits old new k q now_failed o x e err);
-      enough = (let z : total ≤ total = omega arith in z);
-    }
+-- while the log has not failed, the front has not been told that it has
+pub runs_kept : (keep : Store → List Event → ℕ → Type 0) (first now : Stage) (total : ℕ) (es : List LifeEntry) → first.stopped ≡ false → LeadsTo first es now → ∥ IsKept keep first false total es ∥₁
+    → now.stopped ≡ false
+runs_kept keep first now total es f l k = ∥∥₁_elim l (hlevel props) (λ r. ∥∥₁_elim k (hlevel props) (λ q. still_runs first now es r f (q.runs refl)))
 
 pub kept_failed : (keep : Store → List Event → ℕ → Type 0) (first : Stage) (total : ℕ) (es : List LifeEntry) (now_failed failed : Bool) → now_failed ≡ failed → ∥ IsKept keep first failed total es ∥₁
     → IsKeptAfter keep first now_failed total es

@@ -5,6 +5,7 @@ pub mod Calls
 pub mod Living
 pub mod Adding
 pub mod Results
+pub mod Reasons
 pub mod Keeping
 pub mod Turning
 pub mod Gains

@@ -19,7 +19,7 @@ use Rattle.shared_store.specs.Lives.{IsLegalLife, IsShortOf, LeadsTo, Runs, take
 use Rattle.shared_store.specs.Served.{IsAnsweredBy, IsBegun, IsServed, Standing}
 use Rattle.shared_store.specs.Holding.{IsBrought, IsKept, IsLifeOf, IsWaiting, stage_of}
 use Rattle.shared_store.proofs.Counting.{answer_counted}
-use Rattle.shared_store.proofs.Courses.{runs_on, taken_all, taken_behind}
+use Rattle.shared_store.proofs.Courses.{no_stop, runs_on, stop_behind, taken_all, taken_behind}
 
 leads_on : (g h k : Stage) (xs ys : List LifeEntry) → LeadsTo g xs h → Runs h ys k → LeadsTo g (xs ++ ys) k
 leads_on g h k xs ys l q = ∥∥₁_map l (λ r. runs_on g h k xs ys r q)
@@ -118,6 +118,7 @@ module _ (first : Stage) (x y : Standing) (past : ℕ) (stopped : Bool) (commits
     fewer = q.fewer;
     counted = l.counted;
     brought = b q.taken.standing.events q.wait;
+    runs = λ n. stop_behind es (Taken ∷ []) new is refl ∙ n;
   })
 
 module _ (w v : List Event → Type 0) (goes_on : (H : List Event) → w H → v H) (first : Stage) (x y : Standing) (past : ℕ) (stopped : Bool) (es : List LifeEntry)
@@ -220,6 +221,7 @@ module _ (first : Stage) (x y : Standing) (past commits : ℕ) (stopped : Bool) 
     keeps = subst (λ (H : List Event). keep y.store H 0) (sym begun.events) q;
     counted = (let z : commits ≡ commits + 0 = omega arith in z);
     all = λ _. sym (no_commits y.events begun.events);
+    runs = λ _. stop_behind es (Turned ∷ []) new is refl ∙ no_stop first (stage_of past stopped x) es r runs;
   })
 
 -- an epoch goes on, and all its entries were taken
@@ -235,14 +237,15 @@ module _ (first : Stage) (x y : Standing) (past commits : ℕ) (stopped : Bool) 
     wait = q;
   }))
 
-  pub kept_on : (keep : Store → List Event → ℕ → Type 0) → ∥ keep x.store x.events (commit_count x.events) ∥₁ → ∥ IsKept keep first false commits es ∥₁
-  kept_on keep h = ∥∥₁_map₂ h l.leads (λ q r. record {
+  pub kept_on : (keep : Store → List Event → ℕ → Type 0) → stopped ≡ false → ∥ keep x.store x.events (commit_count x.events) ∥₁ → ∥ IsKept keep first false commits es ∥₁
+  kept_on keep f h = ∥∥₁_map₂ h l.leads (λ q r. record {
     taken = stage_of past stopped x;
     leads = subst (λ (n : List LifeEntry). Runs first n (stage_of past stopped x)) (sym taken) r;
     count = commit_count x.events;
     keeps = q;
     counted = l.counted;
     all = λ _. refl;
+    runs = λ _. no_stop first (stage_of past stopped x) es r f;
   })
 
 -- if the last entry is a taking, the whole life was taken

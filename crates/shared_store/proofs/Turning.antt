@@ -24,13 +24,13 @@ use Rattle.shared_store.specs.Beginning.{holds}
 use Rattle.shared_store.specs.Stages.{Stage, first_stage}
 use Rattle.shared_store.specs.Holding.{IsBrought, IsKept, stage_of}
 use Rattle.shared_store.specs.Seated.{IsKeptAt}
-use Rattle.shared_store.specs.Lives.{IsLegalLife, LeadsTo, Runs, calls_of, owner_of, taken_of}
+use Rattle.shared_store.specs.Lives.{IsLegalLife, LeadsTo, Runs, calls_of, has_stop, owner_of, taken_of}
 use Rattle.shared_store.specs.Hosting.{entries_in, note_in, first_of}
 use Rattle.shared_store.specs.Turning.{AddsCall, AddsMarks, GrowsBy, IsNumbered}
 use Rattle.shared_store.specs.Turning as turning
 use Rattle.shared_store.specs.Gaining.{IsCountedIn, LogTurn, Sees, SeesCall, SeesFree, SeesMarks, TakesBatch, TakesNone, TakesTurns}
 use Rattle.shared_store.proofs.Calls.{calls_append, marks_none, one_call, others_none}
-use Rattle.shared_store.proofs.Courses.{others_take_none, taken_behind}
+use Rattle.shared_store.proofs.Courses.{others_stop_none, others_take_none, stop_behind, taken_behind}
 use Rattle.shared_store.proofs.Living.{is_legal}
 use Rattle.shared_store.proofs.Keeping.{kept_still}
 
@@ -186,12 +186,26 @@ module _ {V L B : Type 0} {g : Ghosts V L B} (v0 v1 : View LifeEntry Stage) (x0 
     still : taken_of (entries_in x0) ≡ taken_of v0.seen
     still = ap taken_of t.follows.goes.is ∙ taken_behind v0.seen t.follows.goes.more (others_take_none v0.owners t.follows.goes.more t.owner t.follows.goes.others)
 
+    same_stops : has_stop (entries_in x0) ≡ has_stop v0.seen
+    same_stops = stop_behind v0.seen t.follows.goes.more (entries_in x0) t.follows.goes.is (others_stop_none v0.owners t.follows.goes.more t.owner t.follows.goes.others)
+
     pub takes_batch : (brings : Store → List Event → List Event → Type 0) (commits : ℕ) → ∥ IsBrought brings (first_of x0) commits (entries_in x0) (entries_in x1) ∥₁ → TakesBatch brings commits v0 w
     takes_batch brings commits h = record {
       brought = λ b z. ∥∥₁_map h (λ q.
           let P : List LifeEntry × List LifeEntry × Stage → Type 0 = λ p. Runs p.2 p.0 q.before × Runs p.2 (taken_of p.1) q.after in
           let r = subst P (λ i. (still i, sym (seen LOG_SEAT v0 v1 x0 x1 w t e) i, first_is LOG_SEAT v0 v1 x0 x1 w t e b z i)) (q.begins, q.ends) in
-          record { before = q.before; after = q.after; begins = r.0; ends = r.1; store = q.store; past = q.past; fewer = q.fewer; counted = q.counted; brought = q.brought });
+          record {
+            before = q.before;
+            after = q.after;
+            begins = r.0;
+            ends = r.1;
+            store = q.store;
+            past = q.past;
+            fewer = q.fewer;
+            counted = q.counted;
+            brought = q.brought;
+            runs = λ n. ap (λ (l : List LifeEntry). has_stop l) (seen LOG_SEAT v0 v1 x0 x1 w t e) ∙ q.runs (same_stops ∙ n);
+          });
     }
 
     pub takes_none : entries_in x1 ≡ entries_in x0 ++ Stopped ∷ [] → TakesNone v0 w
@@ -199,7 +213,7 @@ module _ {V L B : Type 0} {g : Ghosts V L B} (v0 v1 : View LifeEntry Stage) (x0 
 
     -- what the log keeps of what the seat has seen, it keeps of the life in x0
     pub kept_found : (keep : Store → List Event → ℕ → Type 0) (failed : Bool) (total : ℕ) → IsKeptAt keep failed total v0 → ∥ IsKept keep (first_of x0) failed total (entries_in x0) ∥₁
-    kept_found keep failed total k = kept_still keep (first_of x0) failed failed total v0.seen (entries_in x0) still (λ y. y) (k.kept (first_of x0) t.follows.has_base)
+    kept_found keep failed total k = kept_still keep (first_of x0) failed failed total v0.seen (entries_in x0) still (λ y. y) (λ _. same_stops) (k.kept (first_of x0) t.follows.has_base)
 
     -- what the log keeps of the life in x1, it keeps of what the seat has seen then
     pub kept_left : (keep : Store → List Event → ℕ → Type 0) (failed : Bool) (total : ℕ) → ∥ IsKept keep (first_of x0) failed total (entries_in x1) ∥₁ → IsKeptAt keep failed total w

@@ -5,7 +5,7 @@ use Rattle.teb_rules.specs.Setup.{Store}
 use Rattle.commit_laws.specs.Commits.{commit_count}
 use Rattle.shared_store.specs.declared.entry.LifeEntry.{LifeEntry}
 use Rattle.shared_store.specs.Stages.{Stage, commits_at}
-use Rattle.shared_store.specs.Lives.{LeadsTo, Runs, taken_of}
+use Rattle.shared_store.specs.Lives.{LeadsTo, Runs, has_stop, taken_of}
 use Rattle.shared_store.specs.Served.{Standing}
 
 -- where the life is, by the server behind it
@@ -37,9 +37,10 @@ pub record IsBrought (brings : Store → List Event → List Event → Type 0) (
   pub fewer : commits_at before ≤ commits_at after
   pub counted : commits ≡ commits_at after
   pub brought : brings after.standing.store before.standing.events after.standing.events
+  pub runs : has_stop old ≡ false → has_stop new ≡ false
 
 -- what a log keeps of a life: at least its first `total` commits. Behind where the list was last taken it keeps none; before, it keeps all,
--- unless it has failed
+-- unless it has failed. While it has not failed, the life tells of no failure
 pub record IsKept (keep : Store → List Event → ℕ → Type 0) (first : Stage) (failed : Bool) (total : ℕ) (entries : List LifeEntry) : Type 0 where
   pub taken : Stage
   pub leads : Runs first (taken_of entries) taken
@@ -47,3 +48,4 @@ pub record IsKept (keep : Store → List Event → ℕ → Type 0) (first : Stag
   pub keeps : keep taken.standing.store taken.standing.events count
   pub counted : total ≡ taken.past + count
   pub all : failed ≡ false → count ≡ commit_count taken.standing.events
+  pub runs : failed ≡ false → has_stop entries ≡ false

@@ -15,4 +15,5 @@ pub mod Known
 pub mod Sharing
 pub mod Sparing
 pub mod Ending
+pub mod Reasons
 pub mod Closing

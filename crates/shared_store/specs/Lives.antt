@@ -62,6 +62,17 @@ abbrev pub taken_of : List LifeEntry → List LifeEntry
 taken_of [] = []
 taken_of (e ∷ es) = let more = taken_of es in cond (is_taking e || list_any is_taking es) (e ∷ more) []
 
+-- with it the log has failed
+abbrev pub is_stop : LifeEntry → Bool
+is_stop (Asked by s q r) = false
+is_stop Taken = false
+is_stop Turned = false
+is_stop Stopped = true
+
+-- the list tells of a failure of the log
+abbrev pub has_stop : List LifeEntry → Bool
+has_stop es = list_any is_stop es
+
 -- session n asked it itself
 abbrev pub is_call_of : ℕ → LifeEntry → Bool
 is_call_of n (Asked by s q r) = (by.0 == n) && (s.0 == n)

@@ -11,6 +11,8 @@ use Rattle.teb_rules.specs.Answer.{answer}
 use Rattle.teb_rules.specs.Serializes.{final_table}
 use Rattle.teb_rules.specs.Setup.{Store}
 use Rattle.shared_store.specs.declared.error.Fault.{Fault}
+use Rattle.shared_store.specs.declared.server.Obstacle.{Obstacle}
+use Rattle.shared_store.specs.declared.server.Obstacle.TheVariants.{Unfinished, Untold}
 
 -- the store that the present epoch began with, and its history
 pub record Standing : Type 0 where
@@ -31,6 +33,22 @@ IsServed old new s q (Err f) = new ≡ old
 pub record IsDrained (H : List Event) : Type 0 where
   pub finished : (t : ℕ) → ¬ IsTrue (unfinished H t)
   pub told : (s t : ℕ) → held H s ≡ Some t → ¬ IsTrue (aborted H t)
+
+-- some transaction is unfinished
+pub record HasUnfinished (H : List Event) : Type 0 where
+  pub txn : ℕ
+  pub is : IsTrue (unfinished H txn)
+
+-- session s holds an aborted transaction, so it was not told of the abort
+pub record IsUntold (H : List Event) (s : ℕ) : Type 0 where
+  pub txn : ℕ
+  pub holds : held H s ≡ Some txn
+  pub gone : IsTrue (aborted H txn)
+
+-- this keeps the epoch from its end
+abbrev pub IsObstacle : List Event → Obstacle → Type 0
+IsObstacle H Unfinished = HasUnfinished H
+IsObstacle H (Untold s) = ((t : ℕ) → ¬ IsTrue (unfinished H t)) × IsUntold H s.0
 
 -- these rows, in ascending order of cells, are those of the final table
 pub record AreLeft (X : Store) (H : List Event) (rows : List (Cell × ℤ)) : Type 0 where

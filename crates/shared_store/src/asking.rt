@@ -12,7 +12,7 @@ ghost use Rattle.shared_store.specs.Turning.{IsPutOff};
 
 use crate::answer::Answer;
 use crate::error::{Failure, Fault};
-use crate::log_door::Pass;
+use crate::log_door::{Errand, Pass};
 use crate::reply::StoreReply;
 use crate::server::EpochServer;
 use crate::session::StoreSession;
@@ -119,7 +119,7 @@ impl<S: EpochServer> StoreSession<S> {
         ensures same { (self.new.session ≡ self.old.session) × (self.new.asks ≡ self.old.asks) × (self.new.seat ≡ self.old.seat) }
         ensures turn { TakesLogTurns 1 (view_of self.old.log_seat) (view_of self.new.log_seat) }
     {
-        let pass = store.log_door.pass(rt, self.session, u64::MAX);
+        let pass = store.log_door.pass(rt, self.session, Errand::EpochEnd);
         let keeper = store.log_turn.enter(rt, &mut self.log_seat);
         let (keeper, ended) = keeper.end_epoch(rt, alloc, &store.turn, self.session);
         let (kept, failed) = (keeper.total, keeper.failed);
@@ -138,7 +138,9 @@ impl<S: EpochServer> StoreSession<S> {
         ensures turn { TakesLogTurns 1 (view_of self.old.log_seat) (view_of self.new.log_seat) }
         ensures safe { result ≡ true → number ≤ total_in (view_of self.new.log_seat).seen }
     {
-        let pass = store.log_door.pass(rt, self.session, number);
+        let pass = store
+            .log_door
+            .pass(rt, self.session, Errand::Commit(number));
         if matches!(pass, Pass::Write(_)) {
             store.log_door.gather(rt);
         }

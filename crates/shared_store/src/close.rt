@@ -1,14 +1,16 @@
 //! How a store is closed.
 
-ghost use Rattle.std.specs.Prelude.{◌≡◌, ◌≤◌, [], false, true, All, map};
+ghost use Rattle.std.specs.Prelude.{◌≡◌, ◌≤◌, [], false, All, IfErr, OnOk, map};
 ghost use Rattle.teb_rules.specs.declared.names.TheConstants.{SESSIONS};
 ghost use Rattle.turn_lock.specs.Counts.{HasAll};
 ghost use Rattle.shared_store.specs.declared.entry.TheConstants.{LOG_SEAT};
 ghost use Rattle.shared_store.specs.Closing.{IsKeptToTheEnd, LeadsToServer};
 ghost use Rattle.shared_store.specs.Lives.{owner_of, taken_of};
+ghost use Rattle.shared_store.specs.Reasons.{IsReason};
 ghost use Rattle.shared_store.specs.Sharing.{base_of, IsSessionOf, IsWithin, number_of};
 
 use crate::entry::LifeEntry;
+use crate::no_checkpoint::NoCheckpoint;
 use crate::server::EpochServer;
 use crate::session::StoreSession;
 use crate::store::Store;
@@ -24,15 +26,16 @@ pub struct Closed<S: EpochServer> {
     pub server: S,
     pub log: S::Log,
     pub life: Life,
-    /// True if the log ends with a checkpoint: it keeps the rows that the life leaves, which are those of the server, and no commit beside
-    /// them. If it is false, the log keeps all commits of the life, unless it has failed.
-    pub is_checkpointed: bool,
+    /// `Ok` if the log ends with a checkpoint: it keeps the rows that the life leaves, which are those of the server, and no commit beside
+    /// them. Else why it does not; the log keeps all commits of the life then, unless it has failed.
+    pub checkpoint: Result<(), NoCheckpoint>,
 }
 
 impl<S: EpochServer> Store<S> {
     /// The server, the log, and the life of the store. It takes back all sessions. Unless the log has failed, it ends the transaction of each
-    /// session that holds one, writes the commits that wait, and then a checkpoint of all rows, with which the epoch ends. There is no
-    /// checkpoint if a call of the log fails, the rows do not fit, or memory is out; an epoch that has not ended stays as it is.
+    /// session that holds one, writes the commits that wait, and then a checkpoint of all rows, with which the epoch ends. If there is no
+    /// checkpoint, `Closed::checkpoint` says why, and the epoch stays as it is: a call of the log has failed, the rows do not fit, memory is
+    /// out, or a transaction could not be ended.
     ///
     /// The life leads from the first stage to where the server is. It begins with what each session has seen, and has no further calls of
     /// it. The log keeps at least as many commits of it as any session was told; all, unless it has failed.
@@ -44,9 +47,10 @@ impl<S: EpochServer> Store<S> {
         ensures sessions { All (IsWithin result.life.items) sessions.items }
         ensures kept { IsKeptToTheEnd (S.keeps result.log) (base_of self) (S.failed result.log) result.life.items sessions.items }
         ensures all { S.failed result.log ≡ false → taken_of result.life.items ≡ result.life.items }
-        ensures begun { result.is_checkpointed ≡ true → (S.standing result.server).events ≡ [] }
-        ensures checkpoint { result.is_checkpointed ≡ true → ∥ S.keeps result.log (S.standing result.server).store [] 0 ∥₁ }
-        ensures running { result.is_checkpointed ≡ true → S.failed result.log ≡ false }
+        ensures begun { OnOk result.checkpoint ((S.standing result.server).events ≡ []) }
+        ensures checkpoint { OnOk result.checkpoint (∥ S.keeps result.log (S.standing result.server).store [] 0 ∥₁) }
+        ensures running { OnOk result.checkpoint (S.failed result.log ≡ false) }
+        ensures reason { IfErr result.checkpoint (IsReason (S.failed result.log) (S.standing result.server).events) }
     {
         let Store { turn, log_turn, .. } = self;
         let (mut seat, mut log_seat) = sessions.pop().unwrap().into_seats();

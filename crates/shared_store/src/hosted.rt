@@ -6,14 +6,13 @@ ghost use Rattle.shared_store.specs.declared.entry.LifeEntry.TheVariants as entr
 ghost use Rattle.shared_store.specs.declared.entry.TheConstants.{LOG_SEAT};
 ghost use Rattle.shared_store.specs.Beginning.{HasRoomFor, IsBegin, holds};
 ghost use Rattle.shared_store.specs.Commits.{commits_in};
-ghost use Rattle.shared_store.specs.Holding.{IsBrought, IsKept, IsLifeOf, IsWaiting, stage_of};
+ghost use Rattle.shared_store.specs.Holding.{IsBrought, IsLifeOf, IsWaiting, stage_of};
 ghost use Rattle.shared_store.specs.Lives.{IsShortOf, owner_of, taken_of};
 ghost use Rattle.shared_store.specs.Served.{IsDrained};
 ghost use Rattle.shared_store.specs.Stages.{first_stage};
 ghost use Rattle.shared_store.specs.Turning.{Adds, AddsMarks, AddsResult, GrowsBy, IsNumbered, IsOfRules, IsPutOff};
 
 use crate::answer::Answer;
-use crate::due_epoch::DueEpoch;
 use crate::entry::LifeEntry;
 use crate::error::Fault;
 use crate::first::First;
@@ -224,11 +223,11 @@ impl<S: EpochServer> Hosted<S> {
     }
 
     /// True if the epoch is to end, and nothing keeps it from its end.
-    fn can_end(&self) -> bool
-        ensures drained { result ≡ true → IsDrained (S.standing self.now.server).events × (self.now.stopped ≡ false) }
+    pub(crate) fn can_end(&self) -> bool
+        ensures drained { result ≡ true → IsDrained (S.standing self.now.server).events }
         ensures ending { result ≡ true → S.ending self.now.server ≡ true }
     {
-        if self.stopped || !self.server.is_ending() {
+        if !self.server.is_ending() {
             return false;
         }
         match self.server.obstacle() {
@@ -241,41 +240,12 @@ impl<S: EpochServer> Hosted<S> {
     pub(crate) fn stop_if(&mut self, failed: bool)
         ensures grows { GrowsBy LOG_SEAT self.old.entries.items self.new.entries.items }
         ensures taken { taken_of self.new.entries.items ≡ taken_of self.old.entries.items }
+        ensures runs { failed ≡ false → self.new.entries.items ≡ self.old.entries.items }
         ensures first { self.new.first ≡ self.old.first }
     {
         if failed {
             self.stop();
         }
-    }
-
-    /// Ends the epoch at the turn of the log's seat, if it is to end and nothing keeps it from that. The log keeps the first `total` commits.
-    /// It returns how many it keeps then, and whether it has failed.
-    ///
-    /// # Errors
-    /// The epoch goes on.
-    pub(crate) fn end_if_due(
-        self,
-        alloc: Global,
-        log: S::Log,
-        total: u64,
-    ) -> (Hosted<S>, S::Log, u64, bool, Result<(), Fault>)
-        requires running { S.failed log ≡ false }
-        requires kept { ∥ IsKept (S.keeps log) (first_stage (S.standing self.first.value)) false total self.entries.items ∥₁ }
-        ensures grows { GrowsBy LOG_SEAT self.entries.items result.0.entries.items }
-        ensures first { result.0.first ≡ self.first }
-        ensures kept { ∥ IsKept (S.keeps result.1) (first_stage (S.standing self.first.value)) result.3 result.2 result.0.entries.items ∥₁ }
-        ensures running { S.failed result.1 ≡ result.3 }
-        ensures more { total ≤ result.2 }
-    {
-        if self.can_end() {
-            let due = DueEpoch {
-                hosted: self,
-                log,
-                total,
-            };
-            return due.end(alloc);
-        }
-        (self, log, total, false, Ok(()))
     }
 
     /// Keeps that the log has failed. Nothing is asked from then on.

@@ -39,7 +39,7 @@
 //! its epoch. Only a Begin of a session that holds no transaction is answered `Later`. A session is answered Committed only if the
 //! log has told it that it keeps at least as many commits as the life has up to this one, and the log keeps as many as it tells (`IsKept`): a
 //! crash leaves them. Nothing is asked after the log has failed. [`Store::close`] returns a server to which the life leads, and a log that
-//! keeps all of it, unless it has failed, and ends with a checkpoint if one could be written.
+//! keeps all of it, unless it has failed. The log ends with a checkpoint, or the closing says why not ([`NoCheckpoint`]).
 //!
 //! Threads may share a store, and a session may go to another thread, if the server and the log may (`embedded_shared` is an example).
 //!
@@ -62,8 +62,10 @@ mod keeper;
 mod kept;
 mod log_door;
 mod make;
+mod no_checkpoint;
 mod origin;
 mod reply;
+mod running;
 mod server;
 mod session;
 mod site;
@@ -79,6 +81,7 @@ pub use first::First;
 pub use hosted::Hosted;
 pub use keeper::Keeper;
 pub use kept::Kept;
+pub use no_checkpoint::NoCheckpoint;
 pub use origin::Origin;
 pub use reply::StoreReply;
 pub use server::{EpochServer, Obstacle};

@@ -36,11 +36,20 @@ pub(crate) struct Waiting {
     failed: bool,
 }
 
+/// For what a session comes to the door.
+#[derive(Clone, Copy, Drop)]
+pub(crate) enum Errand {
+    /// Its commit of this number in the life is to be kept.
+    Commit(u64),
+    /// It ends the epoch, and writes for that, whatever is kept.
+    EpochEnd,
+}
+
 /// What is known of a session.
 #[derive(Clone, Copy, Drop)]
 struct Place {
-    /// The commit for which it is at the door, by its number in the life; 0 if it is not there.
-    commit: u64,
+    /// For what it is at the door, if it is there.
+    errand: Option<Errand>,
     /// The last write that has served it, by its number; 0 if none has.
     served: u64,
 }
@@ -55,33 +64,41 @@ pub(crate) enum Pass<'a> {
 }
 
 impl Waiting {
-    /// True if a write has served this commit, or none will.
-    fn is_settled(&self, number: u64) -> bool {
-        self.failed || number <= self.kept
+    /// True if a write has served this errand, or none will.
+    fn is_settled(&self, errand: Errand) -> bool {
+        self.failed
+            || match errand {
+                Errand::Commit(number) => number <= self.kept,
+                Errand::EpochEnd => false,
+            }
     }
 
     /// True if a session is at the door that the last write has served.
     fn is_any_leaving(&self) -> bool {
-        self.places
-            .iter()
-            .any(|place| place.commit != 0 && self.is_settled(place.commit))
+        self.places.iter().any(|place| match place.errand {
+            Some(errand) => self.is_settled(errand),
+            None => false,
+        })
     }
 
     /// True if each session that one of the last two writes has served is at the door again.
     fn are_gathered(&self) -> bool {
-        self.places.iter().all(|place| place.commit != 0
+        self.places.iter().all(|place| place.errand.is_some()
             || 2 <= self.writes.wrapping_sub(place.served))
     }
 
     /// How many sessions are at the door.
     fn present(&self) -> usize {
-        self.places.iter().filter(|place| place.commit != 0).count()
+        self.places
+            .iter()
+            .filter(|place| place.errand.is_some())
+            .count()
     }
 
-    /// Notes the commit for which a session is at the door.
-    fn arrive(&mut self, session: Session, commit: u64) {
+    /// Notes for what a session is at the door.
+    fn arrive(&mut self, session: Session, errand: Errand) {
         if let Some(place) = self.places.get_mut(usize::from(session.0)) {
-            place.commit = commit;
+            place.errand = Some(errand);
         }
     }
 
@@ -89,7 +106,10 @@ impl Waiting {
     fn depart(&mut self, session: Session) {
         let served = self.writes;
         if let Some(place) = self.places.get_mut(usize::from(session.0)) {
-            *place = Place { commit: 0, served };
+            *place = Place {
+                errand: None,
+                served,
+            };
         }
     }
 }
@@ -98,7 +118,7 @@ impl LogDoor {
     /// Returns a door at which nobody is.
     pub(crate) fn new() -> LogDoor {
         let place = Place {
-            commit: 0,
+            errand: None,
             served: 0,
         };
         LogDoor {
@@ -113,15 +133,15 @@ impl LogDoor {
         }
     }
 
-    /// Waits until the commit of this number is written, or it is this session's turn to write. It sleeps meanwhile.
-    pub(crate) fn pass<R: Wait>(&self, rt: &R, session: Session, number: u64) -> Pass<'_> {
+    /// Waits until the session's commit is written, or it is this session's turn to write. It sleeps meanwhile.
+    pub(crate) fn pass<R: Wait>(&self, rt: &R, session: Session, errand: Errand) -> Pass<'_> {
         let mut waiting = self.waiting.lock(rt);
         for _ in rt.forever() {
-            if !waiting.is_writing && waiting.is_settled(number) {
+            if !waiting.is_writing && waiting.is_settled(errand) {
                 waiting.depart(session);
                 return Pass::Look(waiting);
             }
-            waiting.arrive(session, number);
+            waiting.arrive(session, errand);
             if !waiting.is_writing && !waiting.is_any_leaving() {
                 waiting.is_writing = true;
                 return Pass::Write(session);

@@ -1,6 +1,6 @@
 //! What a shared store asks of what it serves.
 
-ghost use Rattle.std.specs.Prelude.{◌≡◌, ◌<◌, ℕ, List, [], Bool, false, true, None, OnOk, OnErr, IsErrOf};
+ghost use Rattle.std.specs.Prelude.{◌≡◌, ◌<◌, ℕ, List, [], Bool, false, true, MatchOption, OnOk, OnErr, IsErrOf};
 ghost use Rattle.teb_rules.specs.declared.names.TheConstants.{MOST_TXNS};
 ghost use Rattle.teb_rules.specs.declared.history.Event.{Event};
 ghost use Rattle.teb_rules.specs.history.Phases.{begun_count};
@@ -8,7 +8,7 @@ ghost use Rattle.teb_rules.specs.Setup.{Store};
 ghost use Rattle.commit_laws.specs.Commits.{commit_count};
 ghost use Rattle.shared_store.specs.declared.error.Fault.TheVariants as faults;
 ghost use Rattle.shared_store.specs.Beginning.{holds};
-ghost use Rattle.shared_store.specs.Served.{IsBegun, IsDrained, IsServed, Standing};
+ghost use Rattle.shared_store.specs.Served.{IsBegun, IsDrained, IsObstacle, IsServed, Standing};
 
 use crate::error::Fault;
 use std::alloc::Global;
@@ -72,7 +72,7 @@ pub trait EpochServer: Sized {
     /// Returns what keeps the epoch from its end: a transaction is unfinished, or a session holds one that was aborted and was not told of
     /// it. `None` says that nothing does.
     fn obstacle(&self) -> Option<Obstacle>
-        ensures { result ≡ None → IsDrained (standing self.now).events };
+        ensures { MatchOption result (IsDrained (standing self.now).events) (IsObstacle (standing self.now).events) };
 
     /// Takes the commits that wait.
     fn take(&mut self, alloc: Global) -> Self::Batch
@@ -96,7 +96,7 @@ pub trait EpochServer: Sized {
     /// Begins the next epoch under the same tree, with the rows that this one left.
     ///
     /// # Errors
-    /// The server is as it was, and the log keeps what it kept; it may have failed.
+    /// The server is as it was, and the log keeps what it kept; it may have failed. After `Stopped` it has.
     fn next_epoch(self, log: Self::Log, alloc: Global) -> (Self, Self::Log, Result<(), Fault>)
         requires drained { IsDrained (standing self).events }
         requires taken { ∥ waits self (standing self).events ∥₁ }
@@ -104,5 +104,6 @@ pub trait EpochServer: Sized {
         requires running { failed log ≡ false }
         ensures begun { OnOk result.2 (IsBegun (standing self) (standing result.0) × ∥ waits result.0 [] ∥₁ × ∥ keeps result.1 (standing result.0).store [] 0 ∥₁ × (failed result.1 ≡ false)) }
         ensures same { OnErr result.2 ((standing result.0 ≡ standing self) × ∥ waits result.0 (standing self).events ∥₁ × ∥ keeps result.1 (standing self).store (standing self).events
-            (commit_count (standing self).events) ∥₁) };
+            (commit_count (standing self).events) ∥₁) }
+        ensures stopped { IsErrOf result.2 faults.Stopped → failed result.1 ≡ true };
 }

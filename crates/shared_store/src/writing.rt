@@ -8,6 +8,7 @@ use crate::error::Fault;
 use crate::hosted::Hosted;
 use crate::keeper::Keeper;
 use crate::kept::Kept;
+use crate::running::RunningLog;
 use crate::server::EpochServer;
 use crate::taking::{stop_front, take_batch};
 use std::alloc::Global;
@@ -108,7 +109,8 @@ impl<S: EpochServer> Keeper<S> {
             return (same, Err(Fault::Stopped));
         }
         let hosted = turn.enter(rt, &mut seat);
-        let (hosted, log, total, failed, ended) = hosted.end_if_due(alloc, log, total);
+        let running = RunningLog { hosted, log, total };
+        let (hosted, log, total, failed, ended) = running.end_if_due(alloc);
         turn.leave(&mut seat, hosted);
         entries.push(Kept { by, total });
         let keeper = Keeper {

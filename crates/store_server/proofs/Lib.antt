@@ -1,2 +1,4 @@
 pub mod Going
+pub mod Unfinished
+pub mod Faults
 pub mod SharedLives

@@ -9,9 +9,9 @@ use Rattle.store_setup.specs.SetupView.{SetupView}
 use Rattle.store_setup.specs.Stores.{store_of_view}
 use Rattle.tree_toml.specs.SetupText.{setup_of_text}
 
--- the store has the types, the tree and the tables that the text says
-abbrev pub IsTreeOf : List ℕ → Store → Type 0
-IsTreeOf text X = (m : SetupView) → setup_of_text text ≡ Ok m → (X.setup ≡ (store_of_view m).setup) × (X.tables ≡ (store_of_view m).tables)
+-- the store has the types, the tree and the tables that the text says, and its tables have the names there
+abbrev pub IsTreeOf : List ℕ → Store → NameBook → Type 0
+IsTreeOf text X names = (m : SetupView) → setup_of_text text ≡ Ok m → (X.setup ≡ (store_of_view m).setup) × (X.tables ≡ (store_of_view m).tables) × (names.tables ≡ m.tables)
 
 -- each node of the store has a name; the names of tables, types and nodes have the form of names, and no two tables have the same
 pub record IsWellNamed (X : Store) (names : NameBook) : Type 0 where

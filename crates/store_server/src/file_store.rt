@@ -1,9 +1,11 @@
 //! A store in a file, opened and shared in one call.
 
-ghost use Rattle.std.specs.Prelude.{◌≡◌, ◌<◌, ◌^◌, All, map, IfOk, IsErrOf};
+ghost use Rattle.std.specs.Prelude.{◌≡◌, ◌⊎◌, ◌<◌, ◌≤◌, ◌^◌, All, map, IfOk, IsErrOf};
 ghost use Rattle.teb_rules.specs.history.Phases.{numbers};
 ghost use Rattle.shared_store.specs.Sharing.{base_of, IsNew, number_of};
 ghost use Rattle.store_server.specs.Opened.{IsOpened};
+ghost use Rattle.store_server.specs.Refused.{IsFileRefused};
+ghost use Rattle.store_server.specs.declared.error.ServeError.{ServeError as TheServeError};
 ghost use Rattle.store_server.specs.declared.error.OpenFileError.TheVariants as errors;
 
 use crate::error::OpenFileError;
@@ -41,7 +43,9 @@ pub fn open_file<R: Files<File = File>>(
     ensures opened { IfOk result (λ r. IsOpened capacity tree.items (base_of r.0)) }
     ensures sessions { IfOk result (λ r. All (IsNew r.0) r.1.items) }
     ensures numbers { IfOk result (λ r. map number_of r.1.items ≡ numbers SESSIONS) }
+    ensures out_of_range { (capacity ≡ 0) ⊎ (2 ^ 40 ≤ capacity) → IsErrOf result errors.BadCapacity }
     ensures range { 0 < capacity → capacity < 2 ^ 40 → IsErrOf result errors.BadCapacity → ⊥ }
+    ensures not_served { (why : TheServeError) → IsErrOf result (errors.NotServed why) → ∥ IsFileRefused capacity tree.items why ∥₁ }
 {
     if capacity == 0 || MOST_BYTES <= capacity {
         return Err(OpenFileError::BadCapacity);

@@ -23,7 +23,8 @@
 //! answered (clause `found`: `IsFound` in `specs/Found.antt`). The log keeps what `EpochServer` asks of it: a crash leaves the rows
 //! after the first k commits of the epoch, for a k that is at least the number of those that were written (`KeepsCommits` of
 //! `engine_store`). An epoch is to end if and only if 8,192 transactions have begun, a commit did not fit, or fewer bytes are left than
-//! the server holds in reserve (`is_to_end` in `specs/Ending.antt`). [`shared_lives_are_serial`]: the life of a shared store goes on from
+//! the server holds in reserve (`is_to_end` in `specs/Ending.antt`). If something keeps an epoch from its end, `obstacle` says what
+//! (`IsObstacle` of `shared_store`). [`shared_lives_are_serial`]: the life of a shared store goes on from
 //! its past epochs as one serial run.
 //!
 //! **Not claimed**: that an epoch ends in time. A transaction that stays open keeps the next epoch from beginning.
@@ -32,6 +33,7 @@
 mod error;
 mod file_store;
 mod laws;
+mod obstacles;
 mod opening;
 mod server;
 

@@ -1,12 +1,10 @@
 //! How a store is opened for sharing.
 
-ghost use Rattle.std.specs.Prelude.{◌≡◌, [], false, IfOk, Ok};
-ghost use Rattle.store_setup.specs.SetupView.{setup_view};
-ghost use Rattle.store_setup.specs.Sound.{HasNames, IsNamed, IsWhole};
-ghost use Rattle.tree_toml.specs.SetupText.{setup_of_text};
+ghost use Rattle.std.specs.Prelude.{◌≡◌, [], false, IfErr, IfOk};
 ghost use Rattle.engine_store.specs.Halves.{AreCommitsSince, KeepsCommits};
 ghost use Rattle.engine_store.specs.Label.{label_of};
 ghost use Rattle.store_server.specs.Found.{IsFound};
+ghost use Rattle.store_server.specs.Refused.{IsNotServed};
 
 use crate::error::{NotServed, ServeError};
 use crate::server::StoreServer;
@@ -15,7 +13,6 @@ use crash_disk::Renew;
 use engine_store::EngineStore;
 use epoch_journal::EpochJournal;
 use std::alloc::Global;
-use store_setup::Setup;
 use tree_toml::read_tree;
 
 impl<D: Renew> StoreServer<D> {
@@ -23,8 +20,8 @@ impl<D: Renew> StoreServer<D> {
     /// last one, but has the same tables.
     ///
     /// # Errors
-    /// Each error returns the disk, which may be opened again. `BadTree` if the text is refused; then nothing was written. The
-    /// others are those of `EngineStore::open`.
+    /// Each error returns the disk, which may be opened again. `BadTree` if the text is refused; then the disk is as it was.
+    /// `NotOpened` for the causes of `EngineStore::open`; nothing was written, unless a call of the disk failed.
     pub fn open(
         alloc: Global,
         disk: D,
@@ -38,46 +35,27 @@ impl<D: Renew> StoreServer<D> {
         ensures kept { IfOk result (λ o. KeepsCommits D.seen D.may_leave o.0.queue.engine.store [] 0 o.1) }
         ensures running { IfOk result (λ o. o.1.stopped ≡ false) }
         ensures label { IfOk result (λ o. o.1.layout.label ≡ label_of o.0.queue.engine.names.tables) }
+        // The error is the one that the tree text or the disk has.
+        ensures refused { IfErr result (λ e. IsNotServed D.seen D.may_leave D.moment D.left_since D.faults D.capacity tree.items disk e.disk e.why) }
     {
-        match read_tree(alloc, &tree) {
-            Ok(setup) => open_under(alloc, disk, tree, setup),
-            Err(fault) => Err(NotServed {
-                disk,
-                why: ServeError::BadTree(fault),
+        let setup = match read_tree(alloc, &tree) {
+            Ok(setup) => setup,
+            Err(fault) => {
+                return Err(NotServed {
+                    disk,
+                    why: ServeError::BadTree(fault),
+                });
+            }
+        };
+        match EngineStore::open(alloc, disk, setup, PooledChains::new(alloc)) {
+            Ok(store) => {
+                let (queue, log) = store.split(alloc);
+                Ok((StoreServer::new(queue, tree), log))
+            }
+            Err(refused) => Err(NotServed {
+                disk: refused.disk,
+                why: ServeError::NotOpened(refused.why),
             }),
         }
-    }
-}
-
-/// Opens the store that a disk has, under the setup of a tree text, and returns its halves.
-///
-/// # Errors
-/// As those of `EngineStore::open`.
-fn open_under<D: Renew>(
-    alloc: Global,
-    disk: D,
-    tree: Vec<u8>,
-    setup: Setup,
-) -> Result<(StoreServer<D>, EpochJournal<D>), NotServed<D>>
-    requires read { setup_of_text tree.items ≡ Ok (setup_view setup) }
-    requires whole { IsWhole (setup_view setup) }
-    requires nodes { IsNamed (setup_view setup) }
-    requires names { HasNames (setup_view setup) }
-    ensures found { IfOk result (λ o. IsFound D.seen D.may_leave (D.capacity disk) tree.items disk o.0.queue.engine) }
-    ensures events { IfOk result (λ o. o.0.queue.engine.events ≡ []) }
-    ensures waits { IfOk result (λ o. AreCommitsSince o.0.queue.engine.store [] o.0.queue.engine.events o.0.queue.waiting) }
-    ensures kept { IfOk result (λ o. KeepsCommits D.seen D.may_leave o.0.queue.engine.store [] 0 o.1) }
-    ensures running { IfOk result (λ o. o.1.stopped ≡ false) }
-    ensures label { IfOk result (λ o. o.1.layout.label ≡ label_of o.0.queue.engine.names.tables) }
-{
-    match EngineStore::open(alloc, disk, setup, PooledChains::new(alloc)) {
-        Ok(store) => {
-            let (queue, log) = store.split(alloc);
-            Ok((StoreServer::new(queue, tree), log))
-        }
-        Err(refused) => Err(NotServed {
-            disk: refused.disk,
-            why: ServeError::NotOpened(refused.why),
-        }),
     }
 }

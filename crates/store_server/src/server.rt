@@ -9,9 +9,10 @@ ghost use Rattle.tree_toml.specs.SetupText.{setup_of_text};
 ghost use Rattle.engine_store.specs.Halves.{AreCommitsSince, KeepsCommits};
 ghost use Rattle.engine_store.specs.Label.{label_of};
 ghost use Rattle.store_server.specs.Ending.{is_to_end};
-ghost use Rattle.store_server.specs.Standings.{as_fault, fault_of_next, fault_of_write, standing_of};
+ghost use Rattle.store_server.specs.Standings.{fault_of_next, fault_of_write, IsOfLog, standing_of};
 ghost use Rattle.store_server.specs.Trees.{IsTreeOf, IsWellNamed};
 
+use crate::obstacles::obstacle_in;
 use chain_pool::PooledChains;
 use crash_disk::Renew;
 use engine_core::Engine;
@@ -21,8 +22,7 @@ use shared_store::{EpochServer, Fault, Obstacle};
 use std::alloc::{AllocError, Global};
 use std::marker::PhantomData;
 use store_setup::Setup;
-use teb_rules::history::History;
-use teb_rules::names::{MOST_TXNS, Reply, Request, SESSIONS, Session};
+use teb_rules::names::{MOST_TXNS, Reply, Request, Session};
 use tree_toml::read_tree;
 
 /// An epoch is to end once less than one part in this many is left of the bytes that it had at its beginning.
@@ -39,14 +39,14 @@ pub struct StoreServer<D: Renew> {
     /// True if a commit did not fit.
     is_full: bool,
     disk: PhantomData<D>,
-    ghost under: { IsTreeOf tree.items queue.engine.store },
+    ghost under: { IsTreeOf tree.items queue.engine.store queue.engine.names },
     ghost named: { IsWellNamed queue.engine.store queue.engine.names } by { Prim.hlevel props },
 }
 
 impl<D: Renew> StoreServer<D> {
     /// Returns the half that answers, with its tree text.
     pub(crate) fn new(queue: EngineQueue<PooledChains>, tree: Vec<u8>) -> StoreServer<D>
-        requires tree { IsTreeOf tree.items queue.engine.store }
+        requires under { IsTreeOf tree.items queue.engine.store queue.engine.names }
         requires named { IsWellNamed queue.engine.store queue.engine.names }
         ensures { result.queue ≡ queue }
     {
@@ -98,13 +98,13 @@ impl<D: Renew> EpochServer for StoreServer<D> {
     fn serve(&mut self, alloc: Global, session: Session, request: Request) -> Result<Reply, Fault> {
         match self.queue.ask(alloc, session, request) {
             Ok(reply) => Ok(reply),
-            Err(error) => {
-                let fault = fault_of(error);
-                if let Fault::Full = fault {
-                    self.is_full = true;
-                }
-                Err(fault)
+            Err(AskError::Full) => {
+                self.is_full = true;
+                Err(Fault::Full)
             }
+            Err(AskError::OutOfMemory) => Err(Fault::OutOfMemory),
+            // A queue does not answer these.
+            Err(AskError::Stopped | AskError::Unsure) => unreachable!(),
         }
     }
 
@@ -122,7 +122,7 @@ impl<D: Renew> EpochServer for StoreServer<D> {
         if self.queue.is_drained() {
             return None;
         }
-        Some(obstacle_in(self.queue.engine().history()))
+        obstacle_in(self.queue.engine())
     }
 
     fn take(&mut self, alloc: Global) -> Group {
@@ -172,23 +172,6 @@ impl<D: Renew> EpochServer for StoreServer<D> {
     }
 }
 
-/// Returns what keeps an epoch from its end, if it is not drained.
-fn obstacle_in(history: &History) -> Obstacle {
-    for t in history.live() {
-        if history.is_unfinished(*t) {
-            return Obstacle::Unfinished;
-        }
-    }
-    // Each live transaction was aborted, and its session was not told of it.
-    for i in 0..SESSIONS {
-        let session = Session(i + 1);
-        if history.held(session).is_some() {
-            return Obstacle::Untold(session);
-        }
-    }
-    Obstacle::Unfinished
-}
-
 /// Returns the setup of a tree text that was read before. It is read again, since an epoch takes its setup.
 ///
 /// # Errors
@@ -201,18 +184,8 @@ fn setup_of(alloc: Global, tree: &[u8]) -> Result<Setup, AllocError>
 {
     match read_tree(alloc, tree) {
         Ok(setup) => Ok(setup),
+        // The text was accepted before, so only memory can be out.
         Err(_) => Err(AllocError),
-    }
-}
-
-fn fault_of(error: AskError) -> Fault
-    ensures { result ≡ as_fault error }
-{
-    match error {
-        AskError::Full => Fault::Full,
-        AskError::OutOfMemory => Fault::OutOfMemory,
-        // A queue does not answer these.
-        AskError::Stopped | AskError::Unsure => Fault::Stopped,
     }
 }
 
@@ -227,15 +200,14 @@ fn unwritten(error: WriteError) -> Fault
 }
 
 fn not_begun(why: NextError) -> Fault
+    requires { IsOfLog why }
     ensures { result ≡ fault_of_next why }
 {
     match why {
-        NextError::Stopped | NextError::DiskFault => Fault::Stopped,
+        NextError::DiskFault => Fault::Stopped,
         NextError::Full => Fault::Full,
-        // The server is drained, and its tree has its tables.
-        NextError::Again(_)
-        | NextError::Untold(_)
-        | NextError::OtherTables
-        | NextError::OutOfMemory => Fault::OutOfMemory,
+        NextError::OutOfMemory => Fault::OutOfMemory,
+        NextError::Stopped | NextError::Again(_) | NextError::Untold(_) | NextError::OtherTables =>
+            unreachable!(),
     }
 }

@@ -1,7 +1,11 @@
-use Rattle.std.proofs.Common.{ℕ, subst}
+use Rattle.std.proofs.Common.{◌≡◌, Result, Ok, Err, ℕ, ap, subst}
 use Rattle.crash_disk.specs.Log.{contents, MayLeave}
 use Rattle.file_disk.specs.declared.disk.FileDisk.{FileDisk}
 use Rattle.store_server.specs.Found.{IsFound}
+use Rattle.store_server.specs.Refused.{IsFileRefused}
+use Rattle.store_server.specs.declared.error.ServeError.{ServeError}
+use Rattle.store_server.specs.declared.error.OpenFileError.{OpenFileError}
+use Rattle.store_server.specs.declared.error.OpenFileError.TheVariants as errors
 use Rattle.store_server.proofs.file_store.open_file.Goals as goal
 
 pub returns-in-Ok-new-clause-opened : goal.returns-in-Ok-new-clause-opened
@@ -16,3 +20,19 @@ returns-in-Ok-new-clause-opened g c =
           opened.ensures.capacity halves.ensures.found;
       begins = c.in-Ok-new.ensures.base;
     }
+
+-- why a file is not served; another result has this reason for it
+abbrev why_in : {T : Type 0} → ServeError → Result T OpenFileError → ServeError
+why_in w (Ok x) = w
+why_in w (Err (errors.NotServed v)) = v
+why_in w (Err errors.BadCapacity) = w
+why_in w (Err (errors.File v)) = w
+why_in w (Err errors.OutOfMemory) = w
+
+pub returns-in-Err-open-clause-not_served : goal.returns-in-Err-open-clause-not_served
+returns-in-Err-open-clause-not_served g c why is =
+    let opened = c.in-Ok in
+    let back = c.in-Err-open in
+    let same : back.refused.why ≡ why = ap (why_in why) is in
+    subst (λ (w : ServeError). ∥ IsFileRefused c.args.capacity c.args.tree.items w ∥₁) same
+    ∣ record { disk = opened.disk; back = back.refused.disk; safe = opened.ensures.safe; size = opened.ensures.capacity; refused = back.ensures.refused } ∣₁

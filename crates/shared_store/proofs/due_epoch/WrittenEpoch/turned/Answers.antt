@@ -1,55 +1,60 @@
-use Rattle.std.proofs.Common.{refl, sym, ap, ◌∙◌}
+use Rattle.std.proofs.Common.{Err, refl, sym, ap, subst, ◌∙◌}
 use Rattle.shared_store.specs.declared.entry.LifeEntry.TheVariants.{Turned}
+use Rattle.shared_store.specs.declared.error.Fault.{Fault}
 use Rattle.shared_store.specs.Lives.{taken_of}
+use Rattle.shared_store.specs.Served.{IsDrained, Standing}
 use Rattle.shared_store.specs.Stages.{first_stage}
 use Rattle.shared_store.proofs.Adding.{no_calls, no_calls_turned}
 use Rattle.shared_store.proofs.Courses.{taken_all}
 use Rattle.shared_store.proofs.Living.{kept_on, kept_turned, life_same, life_turned, waiting_on, waiting_turned}
+use Rattle.shared_store.proofs.Reasons.{drained_cause}
 use Rattle.shared_store.proofs.Results.{on_err, on_ok}
 use Rattle.shared_store.proofs.due_epoch.WrittenEpoch.turned.Goals as goal
 
 pub invariant_of-hosted : goal.invariant_of-hosted
 invariant_of-hosted g c =
-    let old = c.args.self.hosted in
+    let old = c.args.self.written.hosted in
     let first = first_stage (g.S.EpochServer.standing old.first.value) in
     let x = g.S.EpochServer.standing old.server in
     let y = g.S.EpochServer.standing c.next_epoch-server.result.0 in
     let b = on_ok _ c.next_epoch-server.result.2 c.in-Ok.field-0 c.in-Ok.is c.next_epoch-server.ensures.begun in
     record {
-      life = life_turned first x y old.past old.commits old.stopped old.entries.items c.push.new.self.items old.life c.args.self.runs b.0 c.push.ensures;
-      waiting = waiting_turned first x y old.past old.commits old.stopped old.entries.items c.push.new.self.items old.life c.args.self.runs b.0 c.push.ensures
+      life = life_turned first x y old.past old.commits old.stopped old.entries.items c.push.new.self.items old.life c.args.self.written.runs b.0 c.push.ensures;
+      waiting = waiting_turned first x y old.past old.commits old.stopped old.entries.items c.push.new.self.items old.life c.args.self.written.runs b.0 c.push.ensures
           (g.S.EpochServer.waits c.next_epoch-server.result.0) b.1;
     }
 
 pub invariant_of-hosted-in-Err : goal.invariant_of-hosted-in-Err
 invariant_of-hosted-in-Err g c =
-    let old = c.args.self.hosted in
+    let old = c.args.self.written.hosted in
     let first = first_stage (g.S.EpochServer.standing old.first.value) in
     let x = g.S.EpochServer.standing old.server in
     let y = g.S.EpochServer.standing c.next_epoch-server.result.0 in
     let b = on_err _ c.next_epoch-server.result.2 c.in-Err.fault c.in-Err.is c.next_epoch-server.ensures.same in
     record {
       life = life_same first x y old.past old.stopped old.commits old.entries.items old.life b.0;
-      waiting = waiting_on first x y old.past old.commits old.stopped old.entries.items old.life b.0 c.args.self.taken (g.S.EpochServer.waits c.next_epoch-server.result.0) b.1;
+      waiting = waiting_on first x y old.past old.commits old.stopped old.entries.items old.life b.0 c.args.self.written.taken (g.S.EpochServer.waits c.next_epoch-server.result.0) b.1;
     }
 
 pub returns-in-Ok-clause-kept : goal.returns-in-Ok-clause-kept
 returns-in-Ok-clause-kept g c =
-    let old = c.args.self.hosted in
+    let old = c.args.self.written.hosted in
     let first = first_stage (g.S.EpochServer.standing old.first.value) in
     let x = g.S.EpochServer.standing old.server in
     let y = g.S.EpochServer.standing c.next_epoch-server.result.0 in
     let b = on_ok _ c.next_epoch-server.result.2 c.in-Ok.field-0 c.in-Ok.is c.next_epoch-server.ensures.begun in
-    kept_turned first x y old.past old.commits old.stopped old.entries.items c.push.new.self.items old.life c.args.self.runs b.0 c.push.ensures (g.S.EpochServer.keeps c.next_epoch-server.result.1) b.2
+    kept_turned first x y old.past old.commits old.stopped old.entries.items c.push.new.self.items old.life c.args.self.written.runs b.0 c.push.ensures
+    (g.S.EpochServer.keeps c.next_epoch-server.result.1) b.2
 
 pub returns-in-Err-clause-kept : goal.returns-in-Err-clause-kept
 returns-in-Err-clause-kept g c =
-    let old = c.args.self.hosted in
+    let old = c.args.self.written.hosted in
     let first = first_stage (g.S.EpochServer.standing old.first.value) in
     let x = g.S.EpochServer.standing old.server in
     let y = g.S.EpochServer.standing c.next_epoch-server.result.0 in
     let b = on_err _ c.next_epoch-server.result.2 c.in-Err.fault c.in-Err.is c.next_epoch-server.ensures.same in
-    kept_on first x y old.past old.commits old.stopped old.entries.items old.life b.0 c.args.self.taken (g.S.EpochServer.keeps c.next_epoch-server.result.1) b.2
+    kept_on first x y old.past old.commits old.stopped old.entries.items old.life b.0 c.args.self.written.taken (g.S.EpochServer.keeps c.next_epoch-server.result.1)
+    c.args.self.written.runs b.2
 
 pub returns-in-Ok-clause-begun : goal.returns-in-Ok-clause-begun
 returns-in-Ok-clause-begun g c = (on_ok _ c.next_epoch-server.result.2 c.in-Ok.field-0 c.in-Ok.is c.next_epoch-server.ensures.begun).0.events
@@ -57,11 +62,19 @@ returns-in-Ok-clause-begun g c = (on_ok _ c.next_epoch-server.result.2 c.in-Ok.f
 pub returns-in-Ok-clause-checkpoint : goal.returns-in-Ok-clause-checkpoint
 returns-in-Ok-clause-checkpoint g c = (on_ok _ c.next_epoch-server.result.2 c.in-Ok.field-0 c.in-Ok.is c.next_epoch-server.ensures.begun).2
 
+pub returns-in-Err-clause-cause : goal.returns-in-Err-clause-cause
+returns-in-Err-clause-cause g c =
+    let n = c.next_epoch-server in
+    let f = c.in-Err.fault in
+    let same = (on_err _ n.result.2 f c.in-Err.is n.ensures.same).0 in
+    drained_cause (g.S.EpochServer.failed n.result.1) (g.S.EpochServer.standing n.result.0).events f (subst (λ (x : Standing). IsDrained x.events) (sym same) c.args.self.drained)
+    (λ e. n.ensures.stopped (c.in-Err.is ∙ ap (λ (x : Fault). Err x) e))
+
 pub returns-in-Ok-clause-all : goal.returns-in-Ok-clause-all
-returns-in-Ok-clause-all g c = ap taken_of c.push.ensures ∙ (taken_all c.args.self.hosted.entries.items Turned refl ∙ sym c.push.ensures)
+returns-in-Ok-clause-all g c = ap taken_of c.push.ensures ∙ (taken_all c.args.self.written.hosted.entries.items Turned refl ∙ sym c.push.ensures)
 
 pub returns-in-Ok-clause-calls : goal.returns-in-Ok-clause-calls
-returns-in-Ok-clause-calls g c = no_calls_turned c.args.self.hosted.entries.items c.push.new.self.items c.push.ensures
+returns-in-Ok-clause-calls g c = no_calls_turned c.args.self.written.hosted.entries.items c.push.new.self.items c.push.ensures
 
 pub returns-in-Err-clause-calls : goal.returns-in-Err-clause-calls
-returns-in-Err-clause-calls g c = no_calls c.args.self.hosted.entries.items
+returns-in-Err-clause-calls g c = no_calls c.args.self.written.hosted.entries.items

@@ -1,4 +1,4 @@
-use Rattle.std.proofs.Common.{rules, ◌+◌, ◌-◌, ◌≤◌, false, refl}
+use Rattle.std.proofs.Common.{rules, ◌+◌, ◌-◌, ◌≤◌, ◌∙◌, false, refl}
 use Rattle.turn_lock.specs.Seats.{view_of}
 use Rattle.shared_store.specs.declared.entry.TheConstants.{LOG_SEAT}
 use Rattle.shared_store.proofs.Adding.{grows_none}
@@ -6,8 +6,8 @@ use Rattle.shared_store.proofs.Keeping.{kept_of, log_seat_on, total_now}
 use Rattle.shared_store.proofs.Turning.{Took, kept_found, kept_left, log_turn}
 use Rattle.shared_store.proofs.keeper.Keeper.end_epoch.Goals as goal
 
-pub end_if_due-hosted-requires-clause-kept : goal.end_if_due-hosted-requires-clause-kept
-end_if_due-hosted-requires-clause-kept g c =
+pub invariant_of-running : goal.invariant_of-running
+invariant_of-running g c =
     let old = c.args.self in
     let x = c.enter-hosted.result in
     let v0 = view_of old.seat in
@@ -20,7 +20,10 @@ end_if_due-hosted-requires-clause-kept g c =
       grows = grows_none LOG_SEAT x.entries.items;
       first = refl;
     } in
-    kept_found v0 v1 x x _ t refl keep false old.total (kept_of keep old.failed old.total v0 c.if-failed.false old.kept)
+    record {
+      running = old.running ∙ c.if-failed.false;
+      kept = kept_found v0 v1 x x _ t refl keep false old.total (kept_of keep old.failed old.total v0 c.if-failed.false old.kept);
+    }
 
 pub invariant_of-keeper : goal.invariant_of-keeper
 invariant_of-keeper g c =

@@ -1,15 +1,16 @@
-use Rattle.std.proofs.Common.{◌≡◌, false, [], ◌∙◌, ap, subst, sym}
+use Rattle.std.proofs.Common.{◌≡◌, Err, false, [], ◌∙◌, ap, subst, sym}
 use Rattle.commit_laws.specs.Commits.{commit_count}
 use Rattle.tree_toml.specs.SetupText.{setup_of_text}
 use Rattle.epoch_store.specs.Queue.{Queue}
 use Rattle.epoch_store.proofs.Answering.{get_err, get_ok}
 use Rattle.engine_core.specs.EngineModel.{EngineModel}
 use Rattle.engine_store.specs.Halves.{AreCommitsSince, KeepsCommits}
-use Rattle.engine_store.specs.Next.{MayFollow}
+use Rattle.engine_store.specs.declared.error.NextError.{NextError}
 use Rattle.shared_store.specs.Served.{IsBegun}
 use Rattle.store_server.specs.Standings.{standing_of}
 use Rattle.store_server.specs.Trees.{IsTreeOf, IsWellNamed}
-use Rattle.store_server.proofs.Going.{begins_halves, none_waits, of_match, of_ok, stays_halves}
+use Rattle.store_server.proofs.Faults.{disk_stops}
+use Rattle.store_server.proofs.Going.{begins_halves, is_of_log, none_waits, of_match, of_match_err, of_ok, stays_halves}
 use Rattle.store_server.proofs.server.StoreServerEpochServer.next_epoch.Goals as goal
 
 pub next_epoch-queue-requires-clause-none : goal.next_epoch-queue-requires-clause-none
@@ -20,7 +21,7 @@ invariant_of-server g c =
     let o = c.next_epoch-queue in
     let back = sym (get_err o.result.2 c.in-Err.why c.in-Err.is o.ensures.back) in
     record {
-      under = subst (λ (q : Queue EngineModel). IsTreeOf c.args.self.tree.items q.engine.store) back c.args.self.under;
+      under = subst (λ (q : Queue EngineModel). IsTreeOf c.args.self.tree.items q.engine.store q.engine.names) back c.args.self.under;
       named = subst (λ (q : Queue EngineModel). IsWellNamed q.engine.store q.engine.names) back c.args.self.named;
     }
 
@@ -48,3 +49,17 @@ returns-in-Err-clause-same g c =
     let is = c.in-Err.is in
     stays_halves d.seen d.may_leave c.args.self.queue o.result.0 c.args.log o.result.1 (get_err o.result.2 why is o.ensures.back) c.requires.taken c.requires.kept
     (λ n keeps. get_err o.result.2 why is (o.ensures.not_begun n keeps))
+
+pub not_begun-requires : goal.not_begun-requires
+not_begun-requires g c =
+    let old = c.args.self.queue.engine in
+    let o = c.next_epoch-queue in
+    let why = c.in-Err.why in
+    let is = c.in-Err.is in
+    let tables = (c.args.self.under _ (ap setup_of_text (sym c.deref.ensures.value) ∙ c.in-Ok.ensures.read)).2 in
+    is_of_log c.args.log.layout old c.in-Ok.setup.names.tables why (of_match_err o.result.2 why _ _ is o.ensures.refused) c.requires.drained (sym tables) (λ e. o.ensures.ran (is ∙ ap Err e))
+
+pub returns-in-Err-clause-stopped : goal.returns-in-Err-clause-stopped
+returns-in-Err-clause-stopped g c = λ e.
+    let disk = disk_stops c.not_begun.result c.in-Err.why c.not_begun.ensures e in
+    (c.next_epoch-queue.ensures.fault (c.in-Err.is ∙ ap (λ (w : NextError). Err w) disk)).0

@@ -1,0 +1,19 @@
+-- Why a store is closed without a checkpoint.
+use Rattle.std.specs.Prelude.{◌≡◌, ◌⊎◌, Bool, true, false, List}
+use Rattle.teb_rules.specs.declared.history.Event.{Event}
+use Rattle.shared_store.specs.declared.error.Fault.{Fault}
+use Rattle.shared_store.specs.declared.error.Fault.TheVariants.{Stopped, Full, OutOfMemory}
+use Rattle.shared_store.specs.declared.no_checkpoint.NoCheckpoint.{NoCheckpoint}
+use Rattle.shared_store.specs.declared.no_checkpoint.NoCheckpoint.TheVariants.{Held, Failed}
+use Rattle.shared_store.specs.Served.{IsDrained, IsObstacle}
+
+-- the log has failed; with another fault than Stopped it may run, and then nothing keeps the epoch from its end
+abbrev pub IsCause : Bool → List Event → Fault → Type 0
+IsCause failed H Stopped = failed ≡ true
+IsCause failed H Full = (failed ≡ true) ⊎ IsDrained H
+IsCause failed H OutOfMemory = (failed ≡ true) ⊎ IsDrained H
+
+-- the obstacle is there, and the log has not failed; or the fault has its cause
+abbrev pub IsReason : Bool → List Event → NoCheckpoint → Type 0
+IsReason failed H (Held o) = (failed ≡ false) × IsObstacle H o
+IsReason failed H (Failed f) = IsCause failed H f
