@@ -1,12 +1,11 @@
 //! The output for an input that is refused.
 
 ghost use Rattle.std.specs.Prelude.{◌≡◌, ◌≢◌, IfOk};
-ghost use Rattle.input_reader.specs.Refusals.{why_text, refusal};
+ghost use Rattle.input_reader.specs.Refusals.{refusal};
 
 use crate::InputError;
 use command_output::Output;
 use command_output::status::{BAD_SCRIPT, BAD_TREE, TOO_LONG};
-use script_text::LineWhy;
 use std::alloc::{AllocError, Global};
 use tree_toml::{TreeText, put_fault};
 
@@ -28,7 +27,7 @@ pub fn refusal(alloc: Global, error: &InputError) -> Result<Output, AllocError>
             BAD_SCRIPT,
             "bad script: line ",
             *number,
-            why_text(*why),
+            why.word(),
         ),
         InputError::OutOfMemory => Err(AllocError),
     }
@@ -41,16 +40,4 @@ fn bad_tree(alloc: Global, why: &TreeText) -> Result<Output, AllocError>
     let mut text = Vec::new(alloc);
     put_fault(&mut text, why)?;
     Ok(Output::new(BAD_TREE, text, None))
-}
-
-fn why_text(why: LineWhy) -> &'static str
-    ensures { result.now ≡ why_text why }
-{
-    match why {
-        LineWhy::Session => "session",
-        LineWhy::Verb => "verb",
-        LineWhy::Count => "count",
-        LineWhy::Name => "name",
-        LineWhy::Number => "number",
-    }
 }

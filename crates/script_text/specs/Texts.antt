@@ -15,6 +15,8 @@ use Rattle.teb_rules.specs.declared.names.naming.NameBook.{NameBook}
 use Rattle.teb_rules.specs.declared.history.Event.{Event}
 use Rattle.teb_rules.specs.declared.history.Event.TheVariants as event
 use Rattle.script_text.specs.declared.Answered.{Answered}
+use Rattle.script_text.specs.declared.error.LineWhy.{LineWhy}
+use Rattle.script_text.specs.declared.error.LineWhy.TheVariants as why
 
 abbrev pub Words : Type 0
 Words = List (List ℕ)
@@ -32,6 +34,14 @@ txn_text t = codes "t" ++ decimal t.0
 abbrev pub value_text : Option ℤ → List ℕ
 value_text None = codes "none"
 value_text (Some v) = signed_decimal v
+
+-- why a line is bad
+abbrev pub why_word : LineWhy → List ℕ
+why_word why.Session = codes "session"
+why_word why.Verb = codes "verb"
+why_word why.Count = codes "count"
+why_word why.Name = codes "name"
+why_word why.Number = codes "number"
 
 abbrev pub refusal_text : Refusal → List ℕ
 refusal_text refusal.BadSession = codes "bad-session"

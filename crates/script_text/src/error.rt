@@ -20,6 +20,23 @@ pub enum LineWhy {
     Number,
 }
 
+impl LineWhy {
+    ghost use Rattle.script_text.specs.Texts.{why_word};
+
+    /// Returns the word that names the reason.
+    pub fn word(self) -> &'static str
+        ensures { result.now ≡ why_word self }
+    {
+        match self {
+            LineWhy::Session => "session",
+            LineWhy::Verb => "verb",
+            LineWhy::Count => "count",
+            LineWhy::Name => "name",
+            LineWhy::Number => "number",
+        }
+    }
+}
+
 /// Why a script was not read.
 #[derive(Debug, Drop, Error)]
 pub enum ScriptError {

@@ -7,9 +7,8 @@ use Rattle.teb_rules.specs.declared.names.Table.{Table}
 use Rattle.teb_rules.specs.declared.names.Txn.{Txn}
 use Rattle.teb_rules.specs.declared.names.naming.NameBook.{NameBook}
 use Rattle.script_text.specs.declared.error.LineWhy.{LineWhy}
-use Rattle.script_text.specs.declared.error.LineWhy.TheVariants as why
 use Rattle.script_text.specs.Named.{ReplyNamed}
-use Rattle.script_text.specs.Texts.{line_text, reply_text, rows_text, txn_text}
+use Rattle.script_text.specs.Texts.{line_text, reply_text, rows_text, txn_text, why_word}
 use Rattle.shell_lines.specs.declared.line.Checkpoint.{Checkpoint}
 use Rattle.shell_lines.specs.declared.line.Checkpoint.TheVariants as checkpoint
 use Rattle.shell_lines.specs.declared.line.RowRange.{RowRange}
@@ -19,16 +18,9 @@ use Rattle.shell_lines.specs.declared.reply.StoreReply.{StoreReply}
 use Rattle.shell_lines.specs.declared.reply.StoreReply.TheVariants.{Reply, Later, Full, Unsure}
 use Rattle.shell_lines.specs.declared.answers.TheConstants.{HELP}
 
-abbrev pub why_text : LineWhy → List ℕ
-why_text why.Session = codes "session"
-why_text why.Verb = codes "verb"
-why_text why.Count = codes "count"
-why_text why.Name = codes "name"
-why_text why.Number = codes "number"
-
 -- line n of the input is bad
 abbrev pub bad_text : ℕ → LineWhy → List ℕ
-bad_text n w = line_text (codes "bad" ∷ codes "line" ∷ decimal n ∷ why_text w ∷ [])
+bad_text n w = line_text (codes "bad" ∷ codes "line" ∷ decimal n ∷ why_word w ∷ [])
 
 -- line n of the input can't be obeyed
 abbrev pub unable_word : Unable → List ℕ

@@ -7,7 +7,7 @@ use Rattle.teb_rules.specs.declared.names.Txn.{Txn}
 use Rattle.teb_rules.specs.declared.names.Reply.TheVariants.{Again}
 use Rattle.teb_rules.specs.declared.names.naming.NameBook.{NameBook}
 use Rattle.teb_rules.specs.declared.history.Event.{Event}
-use Rattle.teb_rules.specs.history.OwnEvents.{is_of}
+use Rattle.teb_rules.specs.history.OwnEvents.{own_events}
 use Rattle.teb_rules.specs.history.Phases.{aborted, prepared, unfinished}
 use Rattle.teb_rules.specs.history.Written.{held_txn}
 use Rattle.teb_rules.specs.Tree.{below}
@@ -25,7 +25,7 @@ wait_in _ = None
 
 -- nobody was told to wait
 abbrev pub no_waits : Waits
-no_waits = record { by_session = replicate 32 None }
+no_waits = record { by_session = replicate SESSIONS None }
 
 -- the wait that the last reply to session s told
 abbrev pub wait_of : Waits → ℕ → Option Wait
@@ -37,10 +37,6 @@ is_session s = nat_le 1 s.0 && nat_le s.0 SESSIONS
 -- one reply more
 abbrev pub noted : Waits → Session → StoreReply → Waits
 noted ws s r = if is_session s then record { by_session = set ws.by_session (s.0 - 1) (wait_in r) } else ws
-
--- an event, if it is one of t
-abbrev pub own_text : NameBook → Txn → Event → List ℕ
-own_text names t e = if is_of t.0 e then event_text names e else []
 
 abbrev pub wait_words : List (List ℕ) → Wait → List (List ℕ)
 wait_words nodes w = codes "waits" ∷ txn_text w.who ∷ codes "at" ∷ name_of nodes w.node.0 ∷ []
@@ -76,7 +72,7 @@ module _ (H : List Event) where
 
     -- what it has done, the oldest first
     abbrev pub done_text : Txn → List ℕ
-    done_text t = flat_map (own_text names t) (reverse H)
+    done_text t = flat_map (event_text names) (reverse (own_events H t.0))
 
     abbrev pub holder_line : ℕ → Option Wait → Txn → List ℕ
     holder_line s w t = line_text (codes "session" ∷ decimal s ∷ txn_text t ∷ standing_words t w)

@@ -3,7 +3,7 @@
 ghost use Rattle.std.specs.Prelude.{◌≡◌, ◌++◌, OnOk, codes, map};
 ghost use Rattle.script_text.specs.Puts.{spaced};
 ghost use Rattle.script_text.specs.Texts.{txn_text};
-ghost use Rattle.shell_lines.specs.Answers.{bad_text, checkpoint_text, epoch_text, help_text, names_text, order_text, unable_text, unable_word, why_text};
+ghost use Rattle.shell_lines.specs.Answers.{bad_text, checkpoint_text, epoch_text, help_text, names_text, order_text, unable_text, unable_word};
 
 use crate::{Checkpoint, Unable};
 use line_words::{Word, put_line, put_next};
@@ -24,7 +24,7 @@ pub fn put_bad(out: &mut Vec<u8>, number: u64, why: LineWhy) -> Result<(), Alloc
         &[
             Word::Text("line"),
             Word::Natural(number),
-            Word::Text(why_text(why)),
+            Word::Text(why.word()),
         ],
     )
 }
@@ -55,18 +55,6 @@ fn unable_word(why: Unable) -> &'static str
         Unable::TooLong => "too-long",
         Unable::Nested => "nested",
         Unable::ManyRows => "many-rows",
-    }
-}
-
-fn why_text(why: LineWhy) -> &'static str
-    ensures { result.now ≡ why_text why }
-{
-    match why {
-        LineWhy::Session => "session",
-        LineWhy::Verb => "verb",
-        LineWhy::Count => "count",
-        LineWhy::Name => "name",
-        LineWhy::Number => "number",
     }
 }
 

@@ -1,16 +1,18 @@
 //! The texts of the sessions that hold a transaction.
 
-ghost use Rattle.std.specs.Prelude.{◌≡◌, ◌++◌, ◌≤◌, All, OnOk, reverse};
+ghost use Rattle.std.specs.Prelude.{◌≡◌, ◌++◌, ◌≤◌, All, IfOk, OnOk, reverse};
 ghost use Rattle.std.specs.List.{flat_map};
 ghost use Rattle.teb_rules.specs.declared.names.TheConstants.{SESSIONS as MOST};
+ghost use Rattle.teb_rules.specs.history.OwnEvents.{own_events};
 ghost use Rattle.script_text.specs.Named.{EventNamed};
 ghost use Rattle.script_text.specs.Puts.{spaced};
-ghost use Rattle.shell_lines.specs.Sessions.{done_text, held_text, held_word, holder_line, holders_text, own_text, prompt_text, session_text, sessions_text, standing_words, wait_words};
+ghost use Rattle.script_text.specs.Texts.{event_text};
+ghost use Rattle.shell_lines.specs.Sessions.{done_text, held_text, held_word, holder_line, holders_text, prompt_text, session_text, sessions_text, standing_words, wait_words};
 
 use crate::{Wait, Waits};
 use line_words::{Word, name_at, put_line, put_next, put_spaced, put_word};
 use script_text::put_event;
-use std::alloc::AllocError;
+use std::alloc::{AllocError, Global};
 use teb_rules::history::{Event, History};
 use teb_rules::names::{NameBook, Names, SESSIONS, Session, Txn};
 
@@ -46,11 +48,13 @@ fn put_held_word(out: &mut Vec<u8>, history: &History, session: Session) -> Resu
     put_word(out, &Word::Txn(txn))
 }
 
-/// Appends each session that holds a transaction, with what the transaction has done, and the end.
+/// Appends each session that holds a transaction, with what the transaction has done, and the end. Each event of these transactions
+/// costs a step.
 ///
 /// # Errors
 /// `AllocError`: out of memory. A part of the text may be appended.
 pub fn put_sessions(
+    alloc: Global,
     out: &mut Vec<u8>,
     names: &NameBook,
     history: &History,
@@ -59,11 +63,12 @@ pub fn put_sessions(
     requires { All (EventNamed names.now) (reverse history.now.events) }
     ensures { OnOk result (out.new.items ≡ out.old.items ++ sessions_text history.now.events names.now waits.now) }
 {
-    put_holders(out, names, history, waits)?;
+    put_holders(alloc, out, names, history, waits)?;
     put_line(out, &Word::Text("end"), &[])
 }
 
 fn put_holders(
+    alloc: Global,
     out: &mut Vec<u8>,
     names: &NameBook,
     history: &History,
@@ -73,12 +78,13 @@ fn put_holders(
     ensures { OnOk result (out.new.items ≡ out.old.items ++ holders_text history.now.events names.now waits.now) }
 {
     for i in 0..SESSIONS {
-        put_session(out, names, history, waits, Session(i + 1))?;
+        put_session(alloc, out, names, history, waits, Session(i + 1))?;
     }
     Ok(())
 }
 
 fn put_session(
+    alloc: Global,
     out: &mut Vec<u8>,
     names: &NameBook,
     history: &History,
@@ -93,7 +99,7 @@ fn put_session(
     match history.held(session) {
         Some(txn) => {
             put_holder(out, names, history, session, txn, waits.get(session))?;
-            put_done(out, names, history, txn)
+            put_done(alloc, out, names, history, txn)
         }
         None => Ok(()),
     }
@@ -148,6 +154,7 @@ fn put_wait(out: &mut Vec<u8>, nodes: &Names, wait: Wait) -> Result<(), AllocErr
 
 /// Appends the events of a transaction, the oldest first.
 fn put_done(
+    alloc: Global,
     out: &mut Vec<u8>,
     names: &NameBook,
     history: &History,
@@ -156,37 +163,25 @@ fn put_done(
     requires { All (EventNamed names.now) (reverse history.now.events) }
     ensures { OnOk result (out.new.items ≡ out.old.items ++ done_text history.now.events names.now txn) }
 {
-    put_own(out, names, history.events(), txn)
+    let own = own_events(alloc, history, txn)?;
+    put_events(out, names, &own)
 }
 
-fn put_own(
-    out: &mut Vec<u8>,
-    names: &NameBook,
-    events: &[Event],
-    txn: Txn,
-) -> Result<(), AllocError>
+/// Returns the events of a transaction, the oldest first.
+fn own_events(alloc: Global, history: &History, txn: Txn) -> Result<Vec<Event>, AllocError>
+    ensures { IfOk result (λ own. own.items ≡ reverse (own_events history.now.events txn.0)) }
+{
+    let mut own: Vec<Event> = history.own_events(txn).collect(alloc)?;
+    own.reverse();
+    Ok(own)
+}
+
+fn put_events(out: &mut Vec<u8>, names: &NameBook, events: &[Event]) -> Result<(), AllocError>
     requires { All (EventNamed names.now) events.now }
-    ensures { OnOk result (out.new.items ≡ out.old.items ++ flat_map (own_text names.now txn) events.now) }
+    ensures { OnOk result (out.new.items ≡ out.old.items ++ flat_map (event_text names.now) events.now) }
 {
     for event in events {
-        put_if_own(out, names, event, txn)?;
+        put_event(out, names, event)?;
     }
     Ok(())
-}
-
-/// Appends an event, if it is one of the transaction.
-fn put_if_own(
-    out: &mut Vec<u8>,
-    names: &NameBook,
-    event: &Event,
-    txn: Txn,
-) -> Result<(), AllocError>
-    requires { EventNamed names.now event.now }
-    ensures { OnOk result (out.new.items ≡ out.old.items ++ own_text names.now txn event.now) }
-{
-    if event.txn() == txn {
-        put_event(out, names, event)
-    } else {
-        Ok(())
-    }
 }

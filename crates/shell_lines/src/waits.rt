@@ -17,7 +17,7 @@ pub struct Wait {
 /// For each session, from session 1 on, the wait that its last reply told, if it told one.
 #[derive(Clone, Copy)]
 pub struct Waits {
-    pub by_session: [Option<Wait>; 32],
+    pub by_session: [Option<Wait>; SESSIONS as usize],
 }
 
 impl Waits {
@@ -26,7 +26,7 @@ impl Waits {
         ensures { result ≡ no_waits }
     {
         Waits {
-            by_session: [None; 32],
+            by_session: [None; SESSIONS as usize],
         }
     }
 

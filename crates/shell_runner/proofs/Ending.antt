@@ -1,7 +1,6 @@
 -- The sessions are ended one after another.
 use Rattle.std.proofs.Common.{◌≡◌, ◌≢◌, ℕ, zero, suc, ◌+◌, ◌<◌, ◌≤◌, Bool, true, false, cond, List, [], ◌∷◌, ◌++◌, filter, map, reverse, Option, Some, None, Result, Ok, Err, IsTrue, is_some, inl, inr, refl, sym, ap, ◌∙◌, subst, arith, append_assoc}
-use Rattle.std.specs.Prelude.{◌⊎◌, IfOk, MatchResult, if◌then◌else◌}
-use Rattle.std.specs.List.{list_any}
+use Rattle.std.specs.Prelude.{◌⊎◌, IfOk, MatchResult}
 use Rattle.std.proofs.lemmas.Result.{MatchResult-at_err, MatchResult-at_ok}
 use Rattle.teb_rules.specs.history.Written.{held_txn, txn_of}
 use Rattle.std.specs.Io.KnownBytes.{Appends}
@@ -23,11 +22,14 @@ use Rattle.shell_lines.specs.declared.reply.StoreReply.{StoreReply}
 use Rattle.shell_runner.specs.States.{HasAsked, IsReached, Stored}
 use Rattle.shell_runner.specs.Answers.{IsAnswered, IsTold, ShowsReply, State}
 use Rattle.shell_runner.specs.Holders.{IsReleased, holders, is_holder}
-use Rattle.shell_runner.specs.Runs.{Answers, EndsAtEnd, EndsIfHeld, GoesOnAfter, HasEnded, HasNone, HasRead, HasStopped, IsDone, IsEnded, IsFailure, IsGoing, IsRun, IsSafely, Step, StopsAt, asked_by, end_of, is_bad, said, state_of}
+use Rattle.shell_runner.specs.Runs.{Answers, EndsAtEnd, EndsIfHeld, GoesOnAfter, HasEnded, HasNone, HasRead, HasStopped, IsEnded, IsGoing, IsRun, IsSafely, Step, StopsAt, asked_by, end_of, said, state_of}
+use Rattle.shell_runner.specs.declared.ended.EndStatus.TheVariants.{Done, Failed}
+use Rattle.shell_runner.specs.declared.ended.RunError.{RunError}
+use Rattle.shell_runner.specs.declared.ended.RunError.TheVariants as errors
 use Rattle.shell_runner.specs.declared.shell.Shell.{Shell}
 use Rattle.shell_runner.specs.declared.step.After.{After}
 use Rattle.shell_runner.specs.declared.step.After.TheVariants.{Next, Bad, Quit, Stopped}
-use Rattle.shell_runner.proofs.Going.{appends_front, not_done, quits, unmoved}
+use Rattle.shell_runner.proofs.Going.{appends_front, failed_same, quits, unmoved, written_with}
 use Rattle.shell_runner.proofs.Released.{released}
 
 -- the End of a session that holds a transaction, once it has a reply, releases the session
@@ -93,14 +95,6 @@ left_over H k h =
 one_asked : (step : Step) (ends : List Step) (k : ℕ) → asked_by step ≡ end_of (suc k) → map asked_by (reverse (step ∷ ends)) ≡ map asked_by (reverse ends) ++ map end_of (suc k ∷ [])
 one_asked step ends k e = ap (map asked_by) (reverse-append (step ∷ []) ends) ∙ map-append asked_by (reverse ends) (step ∷ [])
     ∙ ap (λ (x : Option (List ℕ) × ShellLine). map asked_by (reverse ends) ++ x ∷ []) e
-
-done_status : (b : Bool) → IsDone (if b then 7 else 0)
-done_status true = inr refl
-done_status false = inl refl
-
-done_not_five : (status : ℕ) → IsDone status → status ≢ 5
-done_not_five status (inl e) p = omega (arith, e, p)
-done_not_five status (inr e) p = omega (arith, e, p)
 
 -- each of the sessions 1 to k that held a transaction was ended
 pub record EndsSoFar {T : Type 0} (stored : T → Stored) (safe : T → T → Type 0) (mid : Shell T) (k : ℕ) (last : Shell T) (before now : Option (List ℕ)) : Type 0 where
@@ -181,7 +175,7 @@ module _ {T : Type 0} (stored : T → Stored) (safe : T → T → Type 0) (mid :
     passed (inr e) rel = no_end e rel
 
   -- the sessions are ended after the lines were read
-  module _ (first : Shell T) (left start : Option (List ℕ)) (so_far : ℕ) (read : HasRead stored safe first left start so_far mid before) where
+  module _ (first : Shell T) (left start : Option (List ℕ)) (any_bad : Bool) (read : HasRead stored safe first left start any_bad mid before) where
     whole : (now : Option (List ℕ)) (ends : List Step) → Appends before now (said ends) → Appends start now (said read.steps ++ said ends)
     whole now ends w = Appends-trans start before now (said read.steps) (said ends) read.written w
 
@@ -189,82 +183,79 @@ module _ {T : Type 0} (stored : T → Stored) (safe : T → T → Type 0) (mid :
     front now ends w = appends_front start before now (said read.steps) (said ends) read.written w
 
     -- the run ends during the End of a session
-    module _ (status : ℕ) (fails : IsFailure status) where
+    module _ (why : RunError) where
       cut_off : (ends : List Step) (last end : Shell T) (now : Option (List ℕ)) (k : ℕ) → k ≤ SESSIONS → IsRun stored safe mid ends last
           → map asked_by (reverse ends) ≡ map end_of (filter (is_holder (stored mid.store).events) (numbers k))
-          → ((status ≢ 4) × Appends start now (said read.steps ++ said ends)) ⊎ ((status ≡ 4) × AppendsFront start now (said read.steps ++ said ends)) → (status ≡ 15 → HasStopped ends) → status ≢ 5
-          → (status ≢ 8 → end ≡ last) → IsSafely safe last end
-          → HasEnded stored safe first left start status end now
-      cut_off ends last end now k low run asked written stops five same safely =
+          → ((why ≢ errors.WriteFault) × Appends start now (said read.steps ++ said ends)) ⊎ ((why ≡ errors.WriteFault) × AppendsFront start now (said read.steps ++ said ends))
+          → (why ≡ errors.DiskFault → HasStopped ends) → why ≢ errors.TooLong → (why ≢ errors.OutOfMemory → end ≡ last) → IsSafely safe last end
+          → HasEnded stored safe first left start (Failed why) end now
+      cut_off ends last end now k low run asked written stops short same safely =
           let l = left_over (stored mid.store).events k low in
           record {
-            kind = inr fails;
             lines = read.steps;
             mid = mid;
             rest = read.rest;
             run = read.run;
             taken = read.taken;
-            through = λ d. absurd (not_done status fails d);
+            through = λ d. absurd d;
             ends = ends;
             more = l.0;
             last = last;
             closing = run;
             ended = ap (λ (x : List (Option (List ℕ) × ShellLine)). x ++ map end_of l.0) asked ∙ l.1;
-            closed = λ d. absurd (not_done status fails d);
-            written = written;
-            stopped = λ e. inr (stops e);
-            too_long = λ e. absurd (five e);
-            same = same;
+            closed = λ d. absurd d;
+            written = written_with start now (said read.steps ++ said ends) why written;
+            stopped = λ p. inr (stops (failed_same why errors.DiskFault p));
+            too_long = λ p. absurd (short (failed_same why errors.TooLong p));
+            same = λ n. same (λ e. n (ap Failed e));
             safely = safely;
           }
 
-    pub stopped_at : (k : ℕ) (s t : Shell T) (now later : Option (List ℕ)) (status : ℕ) → k < SESSIONS → EndsSoFar stored safe mid k s before now
-        → EndsAtEnd stored safe (record { 0 = suc k }) status s t now later → HasEnded stored safe first left start status t later
-    stopped_at k s t now later status low r e = go e.stops
+    pub stopped_at : (k : ℕ) (s t : Shell T) (now later : Option (List ℕ)) (why : RunError) → k < SESSIONS → EndsSoFar stored safe mid k s before now
+        → EndsAtEnd stored safe (record { 0 = suc k }) why s t now later → HasEnded stored safe first left start (Failed why) t later
+    stopped_at k s t now later why low r e = go e.stops
       where
-        go : StopsAt 1 (state_of stored s) (line.Ask (record { 0 = suc k }) request.End) status (state_of stored t) now later
-            ⊎ ((status ≡ 15) × Answers 1 (state_of stored s) (line.Ask (record { 0 = suc k }) request.End) Stopped (state_of stored t) now later)
-            → HasEnded stored safe first left start status t later
-        go (inl (inl (four, a))) =
-            cut_off status (inr (inl four)) (end_step k s t now later r a.text a.after ∷ r.ends) t t later (suc k) (omega (arith, low))
+        go : StopsAt 1 (state_of stored s) (line.Ask (record { 0 = suc k }) request.End) why (state_of stored t) now later
+            ⊎ ((why ≡ errors.DiskFault) × Answers 1 (state_of stored s) (line.Ask (record { 0 = suc k }) request.End) Stopped (state_of stored t) now later)
+            → HasEnded stored safe first left start (Failed why) t later
+        go (inl (inl (write, a))) =
+            cut_off why (end_step k s t now later r a.text a.after ∷ r.ends) t t later (suc k) (omega (arith, low))
             (more_ends k s t now later r a.text a.after e.holds a.answered e.safely)
             (more_asked k s t now later r a.text a.after e.holds)
-            (inr (four, front later (end_step k s t now later r a.text a.after ∷ r.ends) (appends_front before now later (said r.ends) a.text r.written a.written)))
-            (λ p. absurd (omega (arith, four, p)))
-            (λ p. omega (arith, four, p)) (λ _. refl) (unmoved safe t)
-        go (inl (inr (eight, kept))) =
-            cut_off status (inl (inr (inr eight))) r.ends s t later k (omega (arith, low)) r.run r.asked
-            (inl ((λ p. absurd (omega (arith, eight, p))), whole later r.ends (Appends-kept before now later (said r.ends) r.written kept)))
-            (λ p. absurd (omega (arith, eight, p))) (λ p. omega (arith, eight, p)) (λ p. absurd (p eight)) e.safely
-        go (inr (fifteen, a)) =
-            cut_off status (inr (inr fifteen)) (end_step k s t now later r a.text Stopped ∷ r.ends) t t later (suc k) (omega (arith, low))
+            (inr (write, front later (end_step k s t now later r a.text a.after ∷ r.ends) (appends_front before now later (said r.ends) a.text r.written a.written)))
+            (λ p. absurd (cc)) (λ p. absurd (cc)) (λ _. refl) (unmoved safe t)
+        go (inl (inr (memory, kept))) =
+            cut_off why r.ends s t later k (omega (arith, low)) r.run r.asked
+            (inl ((λ p. absurd (cc)), whole later r.ends (Appends-kept before now later (said r.ends) r.written kept)))
+            (λ p. absurd (cc)) (λ p. absurd (cc)) (λ p. absurd (p memory)) e.safely
+        go (inr (disk, a)) =
+            cut_off why (end_step k s t now later r a.text Stopped ∷ r.ends) t t later (suc k) (omega (arith, low))
             (more_ends k s t now later r a.text Stopped e.holds a.answered e.safely)
             (more_asked k s t now later r a.text Stopped e.holds)
             (inl (
-              (λ p. absurd (omega (arith, fifteen, p))),
+              (λ p. absurd (cc)),
               whole later (end_step k s t now later r a.text Stopped ∷ r.ends) (Appends-trans before now later (said r.ends) a.text r.written a.written),
             )) (λ _. refl)
-            (λ p. omega (arith, fifteen, p)) (λ _. refl) (unmoved safe t)
+            (λ p. absurd (cc)) (λ _. refl) (unmoved safe t)
 
     -- all sessions were ended
-    pub all_ended : (s : Shell T) (now : Option (List ℕ)) → so_far ≢ 4 → so_far ≢ 15 → EndsSoFar stored safe mid SESSIONS s before now → HasEnded stored safe first left start so_far s now
-    all_ended s now four fifteen r = record {
-      kind = inl (subst IsDone (sym read.status) (done_status (list_any (λ (step : Step). is_bad step.after) read.steps)));
+    pub all_ended : (s : Shell T) (now : Option (List ℕ)) → EndsSoFar stored safe mid SESSIONS s before now → HasEnded stored safe first left start (Done any_bad) s now
+    all_ended s now r = record {
       lines = read.steps;
       mid = mid;
       rest = read.rest;
       run = read.run;
       taken = read.taken;
-      through = λ _. (read.through, read.status);
+      through = λ _. (read.through, ap Done read.bad);
       ends = r.ends;
       more = [];
       last = s;
       closing = r.run;
       ended = append-nil (map asked_by (reverse r.ends)) ∙ r.asked;
       closed = λ _. (refl, no_number (is_holder (stored s.store).events) SESSIONS (λ n a b. ap (λ (o : Option ℕ). is_some o) (r.none n a b)));
-      written = inl (four, whole now r.ends r.written);
-      stopped = λ p. absurd (fifteen p);
-      too_long = λ p. absurd (done_not_five so_far (subst IsDone (sym read.status) (done_status (list_any (λ (step : Step). is_bad step.after) read.steps))) p);
+      written = inl ((λ p. absurd (cc)), whole now r.ends r.written);
+      stopped = λ p. absurd (cc);
+      too_long = λ p. absurd (cc);
       same = λ _. refl;
       safely = unmoved safe s;
     }
@@ -279,15 +270,15 @@ module _ {T : Type 0} (stored : T → Stored) (safe : T → T → Type 0) (mid :
       passed stored safe mid before k s t now later r (subst (λ (n : ℕ). EndsIfHeld stored safe (record { 0 = n }) s t now later) is ends)
       (subst (λ (n : ℕ). IsReleased n (stored s.store).events (stored t.store).events) is rel)
 
-  pub ending : (first : Shell T) (left start : Option (List ℕ)) (so_far : ℕ) → HasRead stored safe first left start so_far mid before → (number k : ℕ) (s t : Shell T) (now later : Option (List ℕ))
-      (status : ℕ) → number ≡ k + 1 → k < SESSIONS
-      → EndsSoFar stored safe mid k s before now → EndsAtEnd stored safe (record { 0 = number }) status s t now later → HasEnded stored safe first left start status t later
-  ending first left start so_far read number k s t now later status e low r ends =
+  pub ending : (first : Shell T) (left start : Option (List ℕ)) (any_bad : Bool) → HasRead stored safe first left start any_bad mid before
+      → (number k : ℕ) (s t : Shell T) (now later : Option (List ℕ)) (why : RunError) → number ≡ k + 1 → k < SESSIONS
+      → EndsSoFar stored safe mid k s before now → EndsAtEnd stored safe (record { 0 = number }) why s t now later → HasEnded stored safe first left start (Failed why) t later
+  ending first left start any_bad read number k s t now later why e low r ends =
       let is : number ≡ suc k = omega (arith, e) in
-      stopped_at stored safe mid before first left start so_far read k s t now later status low r (subst (λ (n : ℕ). EndsAtEnd stored safe (record { 0 = n }) status s t now later) is ends)
+      stopped_at stored safe mid before first left start any_bad read k s t now later why low r (subst (λ (n : ℕ). EndsAtEnd stored safe (record { 0 = n }) why s t now later) is ends)
 
 -- if an answer was written, what holds of the answer holds of the result
-pub same_result : {E : Type 0} (W P : Type 0) (answered : Result After E) (r : Result After ℕ) → IfOk r (λ (a : After). (answered ≡ Ok a) × W) → IfOk answered (λ (a : After). P)
+pub same_result : {E : Type 0} (W P : Type 0) (answered : Result After E) (r : Result After RunError) → IfOk r (λ (a : After). (answered ≡ Ok a) × W) → IfOk answered (λ (a : After). P)
     → IfOk r (λ (a : After). P)
 same_result W P (Ok b) (Ok a) w h = h
 same_result W P (Err e) (Ok a) w h = absurd (let q = w.0 in cc)
@@ -295,40 +286,40 @@ same_result W P answered (Err e) w h = tt
 
 -- a session is ended, or its answer stops the run
 module _ {T : Type 0} (stored : T → Stored) (safe : T → T → Type 0) (session : Session) (s t : Shell T) (now later : Option (List ℕ)) where
-  pub ends_or_stops : (a : Result After ℕ) (d : Result (Unit {0}) ℕ) → IsTrue (is_some (held (stored s.store).events session.0))
+  pub ends_or_stops : (a : Result After RunError) (d : Result (Unit {0}) RunError) → IsTrue (is_some (held (stored s.store).events session.0))
       → MatchResult a (λ (after : After). Answers 1 (state_of stored s) (line.Ask session request.End) after (state_of stored t) now later)
-      (λ (status : ℕ). StopsAt 1 (state_of stored s) (line.Ask session request.End) status (state_of stored t) now later)
-      → IsSafely safe s t → MatchResult d (λ (u : Unit {0}). (b : After) × (a ≡ Ok b) × (b ≡ Stopped → ⊥)) (λ (status : ℕ). (a ≡ Err status) ⊎ ((a ≡ Ok Stopped) × (status ≡ 15)))
-      → MatchResult d (λ (u : Unit {0}). EndsIfHeld stored safe session s t now later) (λ (status : ℕ). EndsAtEnd stored safe session status s t now later)
+      (λ (why : RunError). StopsAt 1 (state_of stored s) (line.Ask session request.End) why (state_of stored t) now later)
+      → IsSafely safe s t → MatchResult d (λ (u : Unit {0}). (b : After) × (a ≡ Ok b) × (b ≡ Stopped → ⊥)) (λ (why : RunError). (a ≡ Err why) ⊎ ((a ≡ Ok Stopped) × (why ≡ errors.DiskFault)))
+      → MatchResult d (λ (u : Unit {0}). EndsIfHeld stored safe session s t now later) (λ (why : RunError). EndsAtEnd stored safe session why s t now later)
   ends_or_stops a (Ok u) holds m between g =
       let n = MatchResult-at_ok (λ (after : After). Answers 1 (state_of stored s) (line.Ask session request.End) after (state_of stored t) now later)
-      (λ (status : ℕ). StopsAt 1 (state_of stored s) (line.Ask session request.End) status (state_of stored t) now later) g.0 g.1 m in
+      (λ (why : RunError). StopsAt 1 (state_of stored s) (line.Ask session request.End) why (state_of stored t) now later) g.0 g.1 m in
       inl (record { after = g.0; goes_on = end_goes_on (state_of stored s) (state_of stored t) session g.0 now later n g.2; holds = holds; answers = n; safely = between })
-  ends_or_stops a (Err status) holds m between (inl g) =
+  ends_or_stops a (Err why) holds m between (inl g) =
       record {
         holds = holds;
         stops = inl (MatchResult-at_err (λ (after : After). Answers 1 (state_of stored s) (line.Ask session request.End) after (state_of stored t) now later)
-            (λ (status : ℕ). StopsAt 1 (state_of stored s) (line.Ask session request.End) status (state_of stored t) now later) status g m);
+            (λ (why : RunError). StopsAt 1 (state_of stored s) (line.Ask session request.End) why (state_of stored t) now later) why g m);
         safely = between;
       }
-  ends_or_stops a (Err status) holds m between (inr g) =
+  ends_or_stops a (Err why) holds m between (inr g) =
       record {
         holds = holds;
         stops = inr (
           g.1,
           MatchResult-at_ok (λ (after : After). Answers 1 (state_of stored s) (line.Ask session request.End) after (state_of stored t) now later)
-              (λ (status : ℕ). StopsAt 1 (state_of stored s) (line.Ask session request.End) status (state_of stored t) now later) Stopped g.0 m,
+              (λ (why : RunError). StopsAt 1 (state_of stored s) (line.Ask session request.End) why (state_of stored t) now later) Stopped g.0 m,
         );
         safely = between;
       }
 
 -- what holds of each answer also holds if the run goes on
-pub on_result : (P : Type 0) (a : Result After ℕ) (d : Result (Unit {0}) ℕ) → MatchResult d (λ (u : Unit {0}). (b : After) × (a ≡ Ok b) × (b ≡ Stopped → ⊥))
-    (λ (status : ℕ). (a ≡ Err status) ⊎ ((a ≡ Ok Stopped) × (status ≡ 15)))
+pub on_result : (P : Type 0) (a : Result After RunError) (d : Result (Unit {0}) RunError) → MatchResult d (λ (u : Unit {0}). (b : After) × (a ≡ Ok b) × (b ≡ Stopped → ⊥))
+    (λ (why : RunError). (a ≡ Err why) ⊎ ((a ≡ Ok Stopped) × (why ≡ errors.DiskFault)))
     → IfOk a (λ (after : After). P) → IfOk d (λ (u : Unit {0}). P)
 on_result P (Ok b) (Ok u) g h = h
 on_result P (Err e) (Ok u) g h = absurd (let q = g.1 in cc)
-on_result P a (Err status) g h = tt
+on_result P a (Err why) g h = tt
 
 -- a session that holds no transaction
 pub none_held : (H K : List Event) (s : Session) → K ≡ H → held_txn K s ≡ None → held H s.0 ≡ None

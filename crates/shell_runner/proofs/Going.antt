@@ -26,7 +26,10 @@ use Rattle.shell_runner.specs.States.{Stored}
 use Rattle.shell_runner.specs.Answers.{IsAnswered, ShowsReply, State, after_read, after_reply}
 use Rattle.shell_runner.specs.Flows.{after_of}
 use Rattle.shell_runner.specs.Holders.{holders}
-use Rattle.shell_runner.specs.Runs.{Answers, AsksNext, GoesOn, GoesOnAfter, HasEnded, HasRead, HasRun, HasStopped, IsDone, IsFailure, IsRun, IsSafely, IsSameOrSafe, IsTaken, IsUnread, StopsAt, said, state_of, status_of, Step}
+use Rattle.shell_runner.specs.Runs.{Answers, AsksNext, GoesOn, GoesOnAfter, HasEnded, HasRead, HasRun, HasStopped, IsRun, IsSafely, IsSameOrSafe, IsTaken, IsUnread, StopsAt, has_bad, said, state_of, Step}
+use Rattle.shell_runner.specs.declared.ended.EndStatus.TheVariants.{Failed}
+use Rattle.shell_runner.specs.declared.ended.RunError.{RunError}
+use Rattle.shell_runner.specs.declared.ended.RunError.TheVariants as errors
 use Rattle.shell_runner.specs.declared.shell.Shell.{Shell}
 use Rattle.shell_runner.specs.declared.running.Flow.{Flow}
 use Rattle.shell_runner.specs.declared.running.Flow.TheVariants as flow
@@ -100,38 +103,41 @@ quits n s (line.Ask session request) text t (inr (inr (inr f))) = absurd (let p 
 quits n s line.Checkpoint text t (inl c) = absurd (let p = c.goes_on in cc)
 quits n s line.Checkpoint text t (inr f) = absurd (let p = f.1.stopped in cc)
 
-is_not : (status j k : ℕ) → status ≡ j → j ≢ k → status ≡ k → ⊥
-is_not status j k e other p = other (sym e ∙ p)
+-- the same error
+pub failed_same : (why other : RunError) → Failed why ≡ Failed other → why ≡ other
+failed_same why other p = cc
 
--- a line that cannot be read ends the run with exit code 3, 5 or 8, and no other
-pub not_of : (status k : ℕ) → IsUnread status → 3 ≢ k → 5 ≢ k → 8 ≢ k → status ≢ k
-not_of status k (inl e) a b c = is_not status 3 k e a
-not_of status k (inr (inl e)) a b c = is_not status 5 k e b
-not_of status k (inr (inr e)) a b c = is_not status 8 k e c
+-- a line that cannot be read is no fault of a write or of the disk
+no_write_fault : (why : RunError) → IsUnread why → why ≢ errors.WriteFault
+no_write_fault why (inl e) p = absurd (cc)
+no_write_fault why (inr (inl e)) p = absurd (cc)
+no_write_fault why (inr (inr e)) p = absurd (cc)
 
-failure_not : (status k : ℕ) → IsFailure status → 3 ≢ k → 5 ≢ k → 8 ≢ k → 4 ≢ k → 15 ≢ k → status ≢ k
-failure_not status k (inl why) a b c d e = not_of status k why a b c
-failure_not status k (inr (inl p)) a b c d e = is_not status 4 k p d
-failure_not status k (inr (inr p)) a b c d e = is_not status 15 k p e
+no_disk_fault : (why : RunError) → IsUnread why → why ≢ errors.DiskFault
+no_disk_fault why (inl e) p = absurd (cc)
+no_disk_fault why (inr (inl e)) p = absurd (cc)
+no_disk_fault why (inr (inr e)) p = absurd (cc)
 
-pub not_done : (status : ℕ) → IsFailure status → IsDone status → ⊥
-not_done status fails (inl p) = failure_not status 0 fails (omega arith) (omega arith) (omega arith) (omega arith) (omega arith) p
-not_done status fails (inr p) = failure_not status 7 fails (omega arith) (omega arith) (omega arith) (omega arith) (omega arith) p
+-- a text that is written in whole or in part, by the status
+pub written_with : (before now : Option (List ℕ)) (text : List ℕ) (why : RunError) → ((why ≢ errors.WriteFault) × Appends before now text) ⊎ ((why ≡ errors.WriteFault) × AppendsFront before now text)
+    → ((Failed why ≢ Failed errors.WriteFault) × Appends before now text) ⊎ ((Failed why ≡ Failed errors.WriteFault) × AppendsFront before now text)
+written_with before now text why (inl w) = inl ((λ p. w.0 (failed_same why errors.WriteFault p)), w.1)
+written_with before now text why (inr w) = inr (ap Failed w.0, w.1)
 
 -- an answer is written in whole or in part, or not at all because memory ran out
-pub writes : {E : Type 0} (n : ℕ) (s t : State) (asks : ShellLine) (text : List ℕ) (answered : Result After E) (r : Result After ℕ) (now later : Option (List ℕ))
+pub writes : {E : Type 0} (n : ℕ) (s t : State) (asks : ShellLine) (text : List ℕ) (answered : Result After E) (r : Result After RunError) (now later : Option (List ℕ))
     → IfOk answered (λ (after : After). IsAnswered n s asks text after t)
     → IfOk r (λ (a : After). (answered ≡ Ok a) × Appends now later text)
-    → IfErr r (λ (status : ℕ). ((status ≡ 8) × IsErr answered × Keeps now later) ⊎ ((status ≡ 4) × IsOk answered × AppendsFront now later text))
-    → MatchResult r (λ (after : After). Answers n s asks after t now later) (λ (status : ℕ). StopsAt n s asks status t now later)
+    → IfErr r (λ (why : RunError). ((why ≡ errors.OutOfMemory) × IsErr answered × Keeps now later) ⊎ ((why ≡ errors.WriteFault) × IsOk answered × AppendsFront now later text))
+    → MatchResult r (λ (after : After). Answers n s asks after t now later) (λ (why : RunError). StopsAt n s asks why t now later)
 writes n s t asks text answered (Ok a) now later h w e = record {
   text = text;
   answered = MatchResult-at_ok (λ (after : After). IsAnswered n s asks text after t) (λ _. Unit {0}) a w.0 h;
   written = w.1;
 }
-writes n s t asks text answered (Err status) now later h w (inl p) = inr (p.0, p.2)
-writes n s t asks text (Ok a) (Err status) now later h w (inr p) = inl (p.0, record { text = text; after = a; answered = h; written = p.2 })
-writes n s t asks text (Err e) (Err status) now later h w (inr p) = absurd (not_ok e p.1)
+writes n s t asks text answered (Err why) now later h w (inl p) = inr (p.0, p.2)
+writes n s t asks text (Ok a) (Err why) now later h w (inr p) = inl (p.0, record { text = text; after = a; answered = h; written = p.2 })
+writes n s t asks text (Err e) (Err why) now later h w (inr p) = absurd (not_ok e p.1)
   where
     not_ok : {E : Type 0} (e : E) → IsOk {T = After} (Err e) → ⊥
     not_ok e p = cc
@@ -139,48 +145,46 @@ writes n s t asks text (Err e) (Err status) now later h w (inr p) = absurd (not_
 -- one step of a run: the run goes on, or it ends with a failure
 module _ {T : Type 0} (stored : T → Stored) (safe : T → T → Type 0) (first : Shell T) (left before : Option (List ℕ)) where
   -- the run ends while its lines are being answered
-  pub amid : (lines : List Step) (mid end : Shell T) (rest now : Option (List ℕ)) (status : ℕ) → IsRun stored safe first lines mid → IsTaken left rest lines → IsFailure status
-      → ((status ≢ 4) × Appends before now (said lines)) ⊎ ((status ≡ 4) × AppendsFront before now (said lines)) → (status ≡ 15 → HasStopped lines) → (status ≡ 5 → IfSome rest IsTooLong)
-      → (status ≢ 8 → end ≡ mid) → IsSafely safe mid end
-      → HasEnded stored safe first left before status end now
-  amid lines mid end rest now status run taken fails written stops long same safely = record {
-    kind = inr fails;
+  pub amid : (lines : List Step) (mid end : Shell T) (rest now : Option (List ℕ)) (why : RunError) → IsRun stored safe first lines mid → IsTaken left rest lines
+      → ((why ≢ errors.WriteFault) × Appends before now (said lines)) ⊎ ((why ≡ errors.WriteFault) × AppendsFront before now (said lines)) → (why ≡ errors.DiskFault → HasStopped lines)
+      → (why ≡ errors.TooLong → IfSome rest IsTooLong) → (why ≢ errors.OutOfMemory → end ≡ mid) → IsSafely safe mid end
+      → HasEnded stored safe first left before (Failed why) end now
+  amid lines mid end rest now why run taken written stops long same safely = record {
     lines = lines;
     mid = mid;
     rest = rest;
     run = run;
     taken = taken;
-    through = λ d. absurd (not_done status fails d);
+    through = λ d. absurd d;
     ends = [];
     more = holders (stored mid.store).events;
     last = mid;
     closing = refl;
     ended = refl;
-    closed = λ d. absurd (not_done status fails d);
-    written = elim written [
+    closed = λ d. absurd d;
+    written = elim (written_with before now (said lines) why written) [
       | inl w ↦ inl (w.0, subst (Appends before now) (sym (append-nil (said lines))) w.1)
       | inr w ↦ inr (w.0, subst (AppendsFront before now) (sym (append-nil (said lines))) w.1)
     ];
-    stopped = λ e. inl (stops e);
-    too_long = long;
-    same = same;
+    stopped = λ p. inl (stops (failed_same why errors.DiskFault p));
+    too_long = λ p. long (failed_same why errors.TooLong p);
+    same = λ n. same (λ e. n (ap Failed e));
     safely = safely;
   }
 
   -- the run ends before its next line
-  pub ended_before : (n so_far : ℕ) (s : Shell T) (rest now : Option (List ℕ)) (status : ℕ) → HasRun stored safe first left before n so_far s rest now → IsUnread status
-      → (status ≡ 5 → IfSome rest IsTooLong) → HasEnded stored safe first left before status s now
-  ended_before n so_far s rest now status r why long =
-      amid r.steps s s rest now status r.run r.taken (inl why) (inl (not_of status 4 why (omega arith) (omega arith) (omega arith), r.written))
-      (λ e. absurd (not_of status 15 why (omega arith) (omega arith) (omega arith) e)) long (λ _. refl) (unmoved safe s)
+  pub ended_before : (n : ℕ) (any_bad : Bool) (s : Shell T) (rest now : Option (List ℕ)) (why : RunError) → HasRun stored safe first left before n any_bad s rest now → IsUnread why
+      → (why ≡ errors.TooLong → IfSome rest IsTooLong) → HasEnded stored safe first left before (Failed why) s now
+  ended_before n any_bad s rest now why r unread long =
+      amid r.steps s s rest now why r.run r.taken (inl (no_write_fault why unread, r.written)) (λ e. absurd (no_disk_fault why unread e)) long (λ _. refl) (unmoved safe s)
 
   -- the run is at the end of its input
-  pub read_out : (n so_far : ℕ) (s : Shell T) (rest now : Option (List ℕ)) (r : HasRun stored safe first left before n so_far s rest now) → IsAtEnd rest ⊎ (2 ^ 64 ≤ n + 2)
-      → HasRead stored safe first left before so_far s now
-  read_out n so_far s rest now r end = record {
+  pub read_out : (n : ℕ) (any_bad : Bool) (s : Shell T) (rest now : Option (List ℕ)) (r : HasRun stored safe first left before n any_bad s rest now) → IsAtEnd rest ⊎ (2 ^ 64 ≤ n + 2)
+      → HasRead stored safe first left before any_bad s now
+  read_out n any_bad s rest now r end = record {
     steps = r.steps;
     rest = rest;
-    status = r.status;
+    bad = r.bad;
     through = inl (r.going, subst (λ (k : ℕ). IsAtEnd rest ⊎ (2 ^ 64 ≤ k + 2)) r.count end);
     run = r.run;
     taken = r.taken;
@@ -188,7 +192,7 @@ module _ {T : Type 0} (stored : T → Stored) (safe : T → T → Type 0) (first
   }
 
   -- the next line is taken
-  module _ (n so_far : ℕ) (s t : Shell T) (mid rest now later : Option (List ℕ)) (asks : ShellLine) (r : HasRun stored safe first left before n so_far s mid now)
+  module _ (n : ℕ) (any_bad : Bool) (s t : Shell T) (mid rest now later : Option (List ℕ)) (asks : ShellLine) (r : HasRun stored safe first left before n any_bad s mid now)
       (next : AsksNext (stored s.store).names s.format asks mid rest) (between : IsSafely safe s t) where
     abbrev one_more : List ℕ → After → Step
     one_more text after = record { line = Some next.line; asks = asks; file = next.file; text = text; after = after }
@@ -215,11 +219,11 @@ module _ {T : Type 0} (stored : T → Stored) (safe : T → T → Type 0) (first
       more_written = Appends-trans before now later (said r.steps) a.text r.written a.written
 
       -- the run goes on
-      pub on : (status : ℕ) → GoesOnAfter after → status ≡ status_of (one_more a.text after ∷ r.steps) → HasRun stored safe first left before (n + 1) status t rest later
-      on status goes is = record {
+      pub on : (bad : Bool) → GoesOnAfter after → bad ≡ has_bad (one_more a.text after ∷ r.steps) → HasRun stored safe first left before (n + 1) bad t rest later
+      on bad goes is = record {
         steps = one_more a.text after ∷ r.steps;
         count = omega (arith, r.count);
-        status = is;
+        bad = is;
         going = goes;
         run = more_run a.text after a.answered;
         taken = more_taken a.text after;
@@ -227,11 +231,11 @@ module _ {T : Type 0} (stored : T → Stored) (safe : T → T → Type 0) (first
       }
 
       -- the line is the last one
-      pub last_one : so_far ≡ status_of (one_more a.text after ∷ r.steps) → asks ≡ line.Quit → HasRead stored safe first left before so_far t later
+      pub last_one : any_bad ≡ has_bad (one_more a.text after ∷ r.steps) → asks ≡ line.Quit → HasRead stored safe first left before any_bad t later
       last_one is quit = record {
         steps = one_more a.text after ∷ r.steps;
         rest = rest;
-        status = is;
+        bad = is;
         through = inr quit;
         run = more_run a.text after a.answered;
         taken = more_taken a.text after;
@@ -239,55 +243,56 @@ module _ {T : Type 0} (stored : T → Stored) (safe : T → T → Type 0) (first
       }
 
     -- the disk failed at the line
-    pub failed : (status : ℕ) → status ≡ 15 → Answers (n + 1) (state_of stored s) asks Stopped (state_of stored t) now later → HasEnded stored safe first left before status t later
-    failed status e a =
-        amid (one_more a.text Stopped ∷ r.steps) t t rest later status (more_run a.text Stopped a.answered) (more_taken a.text Stopped) (inr (inr e))
-        (inl ((λ p. absurd (omega (arith, e, p))), more_written Stopped a))
-        (λ _. refl) (λ p. absurd (omega (arith, e, p))) (λ _. refl) (unmoved safe t)
+    pub failed : (why : RunError) → why ≡ errors.DiskFault → Answers (n + 1) (state_of stored s) asks Stopped (state_of stored t) now later
+        → HasEnded stored safe first left before (Failed why) t later
+    failed why e a =
+        amid (one_more a.text Stopped ∷ r.steps) t t rest later why (more_run a.text Stopped a.answered) (more_taken a.text Stopped) (inl ((λ p. absurd (cc)), more_written Stopped a)) (λ _. refl)
+        (λ p. absurd (cc)) (λ _. refl) (unmoved safe t)
 
     -- the text of the line is not written in whole, or memory ran out
-    pub broken_off : (status : ℕ) → StopsAt (n + 1) (state_of stored s) asks status (state_of stored t) now later → HasEnded stored safe first left before status t later
-    broken_off status (inl (e, a)) =
-        amid (one_more a.text a.after ∷ r.steps) t t rest later status (more_run a.text a.after a.answered) (more_taken a.text a.after) (inr (inl e))
-        (inr (e, appends_front before now later (said r.steps) a.text r.written a.written)) (λ p. absurd (omega (arith, e, p))) (λ p. absurd (omega (arith, e, p))) (λ _. refl) (unmoved safe t)
-    broken_off status (inr (e, kept)) =
-        amid r.steps s t mid later status r.run r.taken (inl (inr (inr e))) (inl ((λ p. absurd (omega (arith, e, p))), Appends-kept before now later (said r.steps) r.written kept))
-        (λ p. absurd (omega (arith, e, p))) (λ p. absurd (omega (arith, e, p))) (λ p. absurd (p e)) between
+    pub broken_off : (why : RunError) → StopsAt (n + 1) (state_of stored s) asks why (state_of stored t) now later → HasEnded stored safe first left before (Failed why) t later
+    broken_off why (inl (e, a)) =
+        amid (one_more a.text a.after ∷ r.steps) t t rest later why (more_run a.text a.after a.answered) (more_taken a.text a.after)
+        (inr (e, appends_front before now later (said r.steps) a.text r.written a.written)) (λ p. absurd (cc)) (λ p. absurd (cc)) (λ _. refl) (unmoved safe t)
+    broken_off why (inr (e, kept)) =
+        amid r.steps s t mid later why r.run r.taken (inl ((λ p. absurd (cc)), Appends-kept before now later (said r.steps) r.written kept)) (λ p. absurd (cc)) (λ p. absurd (cc)) (λ p. absurd (p e))
+        between
 
     -- the line was answered; what follows depends on the flow
-    flow_on : (flow : Flow) → Answers (n + 1) (state_of stored s) asks (after_of flow) (state_of stored t) now later → GoesOn stored safe first left before (n + 1) so_far flow t rest later
-    flow_on flow.Next a = on Next a so_far tt r.status
-    flow_on flow.Bad a = on Bad a 7 tt refl
-    flow_on flow.End a = last_one Quit a r.status (quits (n + 1) (state_of stored s) asks a.text (state_of stored t) a.answered)
+    flow_on : (flow : Flow) → Answers (n + 1) (state_of stored s) asks (after_of flow) (state_of stored t) now later → GoesOn stored safe first left before (n + 1) any_bad flow t rest later
+    flow_on flow.Next a = on Next a any_bad tt r.bad
+    flow_on flow.Bad a = on Bad a true tt refl
+    flow_on flow.End a = last_one Quit a r.bad (quits (n + 1) (state_of stored s) asks a.text (state_of stored t) a.answered)
 
-    pub flowed_on : (a : Result After ℕ) (f : Result Flow ℕ) → MatchResult a (λ (after : After). Answers (n + 1) (state_of stored s) asks after (state_of stored t) now later)
-        (λ (status : ℕ). StopsAt (n + 1) (state_of stored s) asks status (state_of stored t) now later)
-        → MatchResult f (λ (flow : Flow). a ≡ Ok (after_of flow)) (λ (status : ℕ). (a ≡ Err status) ⊎ ((a ≡ Ok Stopped) × (status ≡ 15)))
-        → MatchResult f (λ (flow : Flow). GoesOn stored safe first left before (n + 1) so_far flow t rest later) (λ (status : ℕ). HasEnded stored safe first left before status t later)
+    pub flowed_on : (a : Result After RunError) (f : Result Flow RunError) → MatchResult a (λ (after : After). Answers (n + 1) (state_of stored s) asks after (state_of stored t) now later)
+        (λ (why : RunError). StopsAt (n + 1) (state_of stored s) asks why (state_of stored t) now later)
+        → MatchResult f (λ (flow : Flow). a ≡ Ok (after_of flow)) (λ (why : RunError). (a ≡ Err why) ⊎ ((a ≡ Ok Stopped) × (why ≡ errors.DiskFault)))
+        → MatchResult f (λ (flow : Flow). GoesOn stored safe first left before (n + 1) any_bad flow t rest later) (λ (why : RunError). HasEnded stored safe first left before (Failed why) t later)
     flowed_on a (Ok flow) m g = flow_on flow
         (MatchResult-at_ok (λ (after : After). Answers (n + 1) (state_of stored s) asks after (state_of stored t) now later)
-        (λ (status : ℕ). StopsAt (n + 1) (state_of stored s) asks status (state_of stored t) now later) (after_of flow) g m)
-    flowed_on a (Err status) m (inl g) = broken_off status
+        (λ (why : RunError). StopsAt (n + 1) (state_of stored s) asks why (state_of stored t) now later) (after_of flow) g m)
+    flowed_on a (Err why) m (inl g) = broken_off why
         (MatchResult-at_err (λ (after : After). Answers (n + 1) (state_of stored s) asks after (state_of stored t) now later)
-        (λ (status : ℕ). StopsAt (n + 1) (state_of stored s) asks status (state_of stored t) now later) status g m)
-    flowed_on a (Err status) m (inr g) = failed status g.1
+        (λ (why : RunError). StopsAt (n + 1) (state_of stored s) asks why (state_of stored t) now later) why g m)
+    flowed_on a (Err why) m (inr g) = failed why g.1
         (MatchResult-at_ok (λ (after : After). Answers (n + 1) (state_of stored s) asks after (state_of stored t) now later)
-        (λ (status : ℕ). StopsAt (n + 1) (state_of stored s) asks status (state_of stored t) now later) Stopped g.0 m)
+        (λ (why : RunError). StopsAt (n + 1) (state_of stored s) asks why (state_of stored t) now later) Stopped g.0 m)
 
   -- a line was read, answered and written, and the run goes on or ends
-  pub flowed : (number n so_far : ℕ) (s t : Shell T) (names : NameBook) (asks : ShellLine) (mid rest now later : Option (List ℕ)) (a : Result After ℕ) (f : Result Flow ℕ) → number ≡ n + 1
-      → HasRun stored safe first left before n so_far s mid now
+  pub flowed : (number n : ℕ) (any_bad : Bool) (s t : Shell T) (names : NameBook) (asks : ShellLine) (mid rest now later : Option (List ℕ)) (a : Result After RunError) (f : Result Flow RunError)
+      → number ≡ n + 1 → HasRun stored safe first left before n any_bad s mid now
       → names ≡ (stored s.store).names → AsksNext names s.format asks mid rest
       → MatchResult a (λ (after : After). Answers number (state_of stored s) asks after (state_of stored t) now later)
-      (λ (status : ℕ). StopsAt number (state_of stored s) asks status (state_of stored t) now later)
-      → IsSafely safe s t → MatchResult f (λ (flow : Flow). a ≡ Ok (after_of flow)) (λ (status : ℕ). (a ≡ Err status) ⊎ ((a ≡ Ok Stopped) × (status ≡ 15)))
-      → MatchResult f (λ (flow : Flow). GoesOn stored safe first left before number so_far flow t rest later) (λ (status : ℕ). HasEnded stored safe first left before status t later)
-  flowed number n so_far s t names asks mid rest now later a f e r called next m between g =
-      subst (λ (k : ℕ). MatchResult f (λ (flow : Flow). GoesOn stored safe first left before k so_far flow t rest later) (λ (status : ℕ). HasEnded stored safe first left before status t later))
+      (λ (why : RunError). StopsAt number (state_of stored s) asks why (state_of stored t) now later)
+      → IsSafely safe s t → MatchResult f (λ (flow : Flow). a ≡ Ok (after_of flow)) (λ (why : RunError). (a ≡ Err why) ⊎ ((a ≡ Ok Stopped) × (why ≡ errors.DiskFault)))
+      → MatchResult f (λ (flow : Flow). GoesOn stored safe first left before number any_bad flow t rest later) (λ (why : RunError). HasEnded stored safe first left before (Failed why) t later)
+  flowed number n any_bad s t names asks mid rest now later a f e r called next m between g =
+      subst (λ (k : ℕ). MatchResult f (λ (flow : Flow). GoesOn stored safe first left before k any_bad flow t rest later)
+      (λ (why : RunError). HasEnded stored safe first left before (Failed why) t later))
       (sym e)
-      (flowed_on n so_far s t mid rest now later asks r (subst (λ (b : NameBook). AsksNext b s.format asks mid rest) called next) between a f
+      (flowed_on n any_bad s t mid rest now later asks r (subst (λ (b : NameBook). AsksNext b s.format asks mid rest) called next) between a f
       (subst (λ (k : ℕ). MatchResult a (λ (after : After). Answers k (state_of stored s) asks after (state_of stored t) now later)
-      (λ (status : ℕ). StopsAt k (state_of stored s) asks status (state_of stored t) now later)) e m) g)
+      (λ (why : RunError). StopsAt k (state_of stored s) asks why (state_of stored t) now later)) e m) g)
 
 -- a session holds a transaction
 pub held_some : (H K : List Event) (s : Session) (t : Txn) → K ≡ H → Some t ≡ held_txn K s → IsTrue (is_some (held H s.0))
@@ -298,11 +303,11 @@ held_some H K s t same is = subst (λ (J : List Event). IsTrue (is_some (held J 
     go (Some n) e = rw e refl
 
 -- a run without steps
-pub begun : {T : Type 0} (stored : T → Stored) (safe : T → T → Type 0) (s : Shell T) (left now : Option (List ℕ)) → HasRun stored safe s left now 0 0 s (ahead [] left) now
+pub begun : {T : Type 0} (stored : T → Stored) (safe : T → T → Type 0) (s : Shell T) (left now : Option (List ℕ)) → HasRun stored safe s left now 0 false s (ahead [] left) now
 begun stored safe s left now = record {
   steps = [];
   count = refl;
-  status = refl;
+  bad = refl;
   going = tt;
   run = refl;
   taken = subst (λ (o : Option (List ℕ)). Consumes left o []) (sym (prepend_known-nil left)) (Consumes-nil left);

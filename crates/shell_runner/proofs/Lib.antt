@@ -5,4 +5,4 @@ pub mod Brought
 pub mod Shown
 pub mod Released
 pub mod Ending
-pub mod Turning
+pub mod EpochEnds

@@ -12,7 +12,7 @@ use Rattle.shell_lines.specs.declared.reply.StoreReply.TheVariants.{Reply, Later
 use Rattle.shell_lines.specs.Sessions.{noted}
 use Rattle.shell_lines.specs.declared.waits.Waits.{Waits}
 use Rattle.shell_runner.specs.States.{Stored, HasNodeNames, IsDrained, IsNext, IsOfTree, IsReplied}
-use Rattle.shell_runner.specs.Answers.{HasTurned, IsTold, State, next_number}
+use Rattle.shell_runner.specs.Answers.{IsNextEpoch, IsTold, State, next_number}
 
 pub record SameTree (s t : Stored) : Type 0 where
   pub store : t.store ≡ s.store
@@ -50,9 +50,9 @@ told s t session request Unsure h e f w = (h, e, f, w)
 
 -- the next epoch has begun with the same tree
 module _ (tree : List ℕ) (s t : Stored) (m : SetupView) (of : IsOfTree tree s) (same : of.view ≡ m) (n : IsNext m s t) where
-  pub turned : (e f : ℕ) (format : ℕ) (waits : Waits) → IsDrained s.events → f ≡ next_number e → HasTurned (record { stored = s; epoch = e; format = format; waits = waits })
+  pub next_epoch : (e f : ℕ) (format : ℕ) (waits : Waits) → IsDrained s.events → f ≡ next_number e → IsNextEpoch (record { stored = s; epoch = e; format = format; waits = waits })
       (record { stored = t; epoch = f; format = format; waits = waits })
-  turned e f format waits drained next = record {
+  next_epoch e f format waits drained next = record {
     setup = n.setup ∙ ap (λ (v : SetupView). (store_of_view v).setup) (sym same) ∙ sym of.setup;
     tables = n.tables ∙ ap (λ (v : SetupView). (store_of_view v).tables) (sym same) ∙ sym of.tables;
     names = n.names ∙ ap names_of (sym same) ∙ sym of.names;
@@ -65,8 +65,8 @@ module _ (tree : List ℕ) (s t : Stored) (m : SetupView) (of : IsOfTree tree s)
     waits = refl;
   }
 
-  pub turned_of_tree : IsOfTree tree t
-  turned_of_tree = record {
+  pub next_of_tree : IsOfTree tree t
+  next_of_tree = record {
     view = m;
     read = of.read ∙ ap Ok same;
     setup = n.setup;

@@ -40,7 +40,7 @@ abbrev pub next_number : ℕ → ℕ
 next_number n = min (n + 1) (2 ^ 64 - 1)
 
 -- the next epoch began under the same tree, for nobody was unfinished or untold: nothing has happened in it, and it has the rows that the commits of the last one have left
-pub record HasTurned (s t : State) : Type 0 where
+pub record IsNextEpoch (s t : State) : Type 0 where
   pub setup : t.stored.store.setup ≡ s.stored.store.setup
   pub tables : t.stored.store.tables ≡ s.stored.store.tables
   pub names : t.stored.names ≡ s.stored.names
@@ -101,26 +101,26 @@ pub record TellsLater (s : State) (session : Session) (request : Request) (text 
   pub goes_on : after ≡ Next
 
 -- the store is asked after the next epoch has begun, or without it if the rows do not fit
-pub record AsksAfterTurn (s : State) (session : Session) (request : Request) (text : List ℕ) (after : After) (t : State) : Type 0 where
+pub record AsksAtEnd (s : State) (session : Session) (request : Request) (text : List ℕ) (after : After) (t : State) : Type 0 where
   pub at_end : BeginsAtEnd s.stored session request
   pub drained : IsDrained s.stored.events
   pub mid : State
-  pub turned : HasTurned s mid ⊎ (mid ≡ s)
+  pub begun : IsNextEpoch s mid ⊎ (mid ≡ s)
   pub replied : ShowsReply mid session request text after t
 
 -- the disk failed as the next epoch was to begin
-pub record FailsToTurn (s : State) (session : Session) (request : Request) (text : List ℕ) (after : After) : Type 0 where
+pub record FailsAtEnd (s : State) (session : Session) (request : Request) (text : List ℕ) (after : After) : Type 0 where
   pub at_end : BeginsAtEnd s.stored session request
   pub drained : IsDrained s.stored.events
   pub failed : HasFailed text after
 
 abbrev pub IsAsked : State → Session → Request → List ℕ → After → State → Type 0
 IsAsked s session request text after t =
-    AsksNow s session request text after t ⊎ (TellsLater s session request text after t ⊎ (AsksAfterTurn s session request text after t ⊎ FailsToTurn s session request text after))
+    AsksNow s session request text after t ⊎ (TellsLater s session request text after t ⊎ (AsksAtEnd s session request text after t ⊎ FailsAtEnd s session request text after))
 
 -- what becomes of a checkpoint
 abbrev pub IsCheckpointed : State → Checkpoint → State → Type 0
-IsCheckpointed s (checkpoint.Begun n) t = HasTurned s t × (n ≡ t.epoch)
+IsCheckpointed s (checkpoint.Begun n) t = IsNextEpoch s t × (n ≡ t.epoch)
 IsCheckpointed s (checkpoint.Unfinished u) t = (t ≡ s) × IsTrue (unfinished s.stored.events u.0)
 IsCheckpointed s (checkpoint.Untold u) t = (t ≡ s) × IsUntold s.stored.events u
 IsCheckpointed s checkpoint.Full t = (t ≡ s) × IsDrained s.stored.events

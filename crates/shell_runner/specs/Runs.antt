@@ -1,5 +1,5 @@
 -- A run: lines, each answered before the next one is read, and then the ends of the sessions that hold a transaction.
-use Rattle.std.specs.Prelude.{◌≡◌, ◌≢◌, ◌⊎◌, ℕ, ◌+◌, ◌^◌, ◌≤◌, Bool, true, false, if◌then◌else◌, List, [], ◌∷◌, ◌++◌, length, map, reverse, Option, Some, None, IfSome, IsTrue, is_some}
+use Rattle.std.specs.Prelude.{◌≡◌, ◌≢◌, ◌⊎◌, ℕ, ◌+◌, ◌^◌, ◌≤◌, Bool, true, false, List, [], ◌∷◌, ◌++◌, length, map, reverse, Option, Some, None, IfSome, IsTrue, is_some}
 use Rattle.std.specs.List.{list_any}
 use Rattle.std.specs.Io.KnownBytes.{Appends, Consumes, IsAtEnd, Keeps, prepend_known}
 use Rattle.teb_io.specs.Bytes.{AppendsFront}
@@ -15,6 +15,10 @@ use Rattle.shell_lines.specs.declared.line.ShellLine.TheVariants as line
 use Rattle.shell_runner.specs.States.{Stored}
 use Rattle.shell_runner.specs.Answers.{State, IsAnswered}
 use Rattle.shell_runner.specs.Holders.{holders}
+use Rattle.shell_runner.specs.declared.ended.EndStatus.{EndStatus}
+use Rattle.shell_runner.specs.declared.ended.EndStatus.TheVariants.{Done, Failed}
+use Rattle.shell_runner.specs.declared.ended.RunError.{RunError}
+use Rattle.shell_runner.specs.declared.ended.RunError.TheVariants as errors
 use Rattle.shell_runner.specs.declared.shell.Shell.{Shell}
 use Rattle.shell_runner.specs.declared.running.Flow.{Flow}
 use Rattle.shell_runner.specs.declared.running.Flow.TheVariants as flow
@@ -118,25 +122,25 @@ HasStopped (step ∷ older) = step.after ≡ Stopped
 abbrev pub IsThrough : Option (List ℕ) → List Step → Type 0
 IsThrough rest steps = (IsGoing steps × (IsAtEnd rest ⊎ (2 ^ 64 ≤ length steps + 2))) ⊎ HasQuit steps
 
--- each line was answered, and some of them may have been bad
-abbrev pub IsDone : ℕ → Type 0
-IsDone status = (status ≡ 0) ⊎ (status ≡ 7)
+-- each line was answered
+abbrev pub IsDone : EndStatus → Type 0
+IsDone (Done any_bad) = Unit {0}
+IsDone (Failed why) = ⊥
 
 -- why the next line is not read: a read failed, it is too long, or memory ran out
-abbrev pub IsUnread : ℕ → Type 0
-IsUnread status = (status ≡ 3) ⊎ ((status ≡ 5) ⊎ (status ≡ 8))
-
--- that, or a write or the disk failed
-abbrev pub IsFailure : ℕ → Type 0
-IsFailure status = IsUnread status ⊎ ((status ≡ 4) ⊎ (status ≡ 15))
+abbrev pub IsUnread : RunError → Type 0
+IsUnread why = (why ≡ errors.ReadFault) ⊎ ((why ≡ errors.TooLong) ⊎ (why ≡ errors.OutOfMemory))
 
 abbrev pub is_bad : After → Bool
 is_bad Bad = true
 is_bad _ = false
 
--- 7 if a line was bad, and else 0
-abbrev pub status_of : List Step → ℕ
-status_of steps = if list_any (λ step. is_bad step.after) steps then 7 else 0
+-- some line was bad
+abbrev pub has_bad : List Step → Bool
+has_bad steps = list_any (λ step. is_bad step.after) steps
+
+abbrev pub status_of : List Step → EndStatus
+status_of steps = Done (has_bad steps)
 
 -- what a step reads and asks
 abbrev pub asked_by : Step → Option (List ℕ) × ShellLine
@@ -151,38 +155,38 @@ abbrev pub AreEnds : Stored → List Step → List ℕ → Type 0
 AreEnds s steps more = map asked_by (reverse steps) ++ map end_of more ≡ map end_of (holders s.events)
 
 -- a run so far: its n steps have led to this shell, and their text is written
-pub record HasRun {T : Type 0} (stored : T → Stored) (safe : T → T → Type 0) (first : Shell T) (left before : Option (List ℕ)) (n so_far : ℕ) (last : Shell T) (rest now : Option (List ℕ)) : Type 0
-  where
-    pub steps : List Step
-    pub count : n ≡ length steps
-    pub status : so_far ≡ status_of steps
-    pub going : IsGoing steps
-    pub run : IsRun stored safe first steps last
-    pub taken : IsTaken left rest steps
-    pub written : Appends before now (said steps)
+pub record HasRun {T : Type 0} (stored : T → Stored) (safe : T → T → Type 0) (first : Shell T) (left before : Option (List ℕ)) (n : ℕ) (any_bad : Bool) (last : Shell T)
+    (rest now : Option (List ℕ)) : Type 0 where
+  pub steps : List Step
+  pub count : n ≡ length steps
+  pub bad : any_bad ≡ has_bad steps
+  pub going : IsGoing steps
+  pub run : IsRun stored safe first steps last
+  pub taken : IsTaken left rest steps
+  pub written : Appends before now (said steps)
 
 -- a run whose last line was answered
-pub record HasRead {T : Type 0} (stored : T → Stored) (safe : T → T → Type 0) (first : Shell T) (left before : Option (List ℕ)) (so_far : ℕ) (last : Shell T) (now : Option (List ℕ)) : Type 0 where
+pub record HasRead {T : Type 0} (stored : T → Stored) (safe : T → T → Type 0) (first : Shell T) (left before : Option (List ℕ)) (any_bad : Bool) (last : Shell T) (now : Option (List ℕ)) : Type 0 where
   pub steps : List Step
   pub rest : Option (List ℕ)
-  pub status : so_far ≡ status_of steps
+  pub bad : any_bad ≡ has_bad steps
   pub through : IsThrough rest steps
   pub run : IsRun stored safe first steps last
   pub taken : IsTaken left rest steps
   pub written : Appends before now (said steps)
 
 -- a run after one line more, if there is one: it goes on, or that line was the last
-abbrev pub GoesOn : {T : Type 0} → (T → Stored) → (T → T → Type 0) → Shell T → Option (List ℕ) → Option (List ℕ) → ℕ → ℕ → Flow → Shell T → Option (List ℕ) → Option (List ℕ) → Type 0
-GoesOn stored safe first left before number status flow.Next last ahead now = HasRun stored safe first left before number status last ahead now
-GoesOn stored safe first left before number status flow.Bad last ahead now = HasRun stored safe first left before number 7 last ahead now
-GoesOn stored safe first left before number status flow.End last ahead now = HasRead stored safe first left before status last now
+abbrev pub GoesOn : {T : Type 0} → (T → Stored) → (T → T → Type 0) → Shell T → Option (List ℕ) → Option (List ℕ) → ℕ → Bool → Flow → Shell T → Option (List ℕ) → Option (List ℕ) → Type 0
+GoesOn stored safe first left before number any_bad flow.Next last ahead now = HasRun stored safe first left before number any_bad last ahead now
+GoesOn stored safe first left before number any_bad flow.Bad last ahead now = HasRun stored safe first left before number true last ahead now
+GoesOn stored safe first left before number any_bad flow.End last ahead now = HasRead stored safe first left before any_bad last now
 
--- a run at its end: the steps of lines, and then those that end sessions. With status 0 or 7 no line is left, or the last one asked for the end; 7 if a line
--- was bad; each session that held a transaction was ended, and none holds
--- one. The text of all steps is written, or a prefix of it and the status is 4; with 15 the disk failed at the last step; where memory ran out (8), the shell
--- may have asked one line more, and a crash leaves what it may. Status 5 has one cause: the next line is too long
-pub record HasEnded {T : Type 0} (stored : T → Stored) (safe : T → T → Type 0) (first : Shell T) (left before : Option (List ℕ)) (status : ℕ) (end : Shell T) (now : Option (List ℕ)) : Type 0 where
-  pub kind : IsDone status ⊎ IsFailure status
+-- a run at its end: the steps of lines, and then those that end sessions. If it is done, no line is left, or the last one asked for the end; the status says
+-- whether a line was bad; each session that held a transaction was ended, and none holds one. The text of all steps is written, or a prefix of it if a write
+-- failed. If the disk failed, it did so at the last step. If a line is too long, it is the next one. If memory ran out, the shell may have asked one line more,
+-- and a crash leaves what it may
+pub record HasEnded {T : Type 0} (stored : T → Stored) (safe : T → T → Type 0) (first : Shell T) (left before : Option (List ℕ)) (status : EndStatus) (end : Shell T)
+    (now : Option (List ℕ)) : Type 0 where
   pub lines : List Step
   pub mid : Shell T
   pub rest : Option (List ℕ)
@@ -195,10 +199,10 @@ pub record HasEnded {T : Type 0} (stored : T → Stored) (safe : T → T → Typ
   pub closing : IsRun stored safe mid ends last
   pub ended : AreEnds (stored mid.store) ends more
   pub closed : IsDone status → (more ≡ []) × (holders (stored last.store).events ≡ [])
-  pub written : ((status ≢ 4) × Appends before now (said lines ++ said ends)) ⊎ ((status ≡ 4) × AppendsFront before now (said lines ++ said ends))
-  pub stopped : status ≡ 15 → HasStopped lines ⊎ HasStopped ends
-  pub too_long : status ≡ 5 → IfSome rest IsTooLong
-  pub same : status ≢ 8 → end ≡ last
+  pub written : ((status ≢ Failed errors.WriteFault) × Appends before now (said lines ++ said ends)) ⊎ ((status ≡ Failed errors.WriteFault) × AppendsFront before now (said lines ++ said ends))
+  pub stopped : status ≡ Failed errors.DiskFault → HasStopped lines ⊎ HasStopped ends
+  pub too_long : status ≡ Failed errors.TooLong → IfSome rest IsTooLong
+  pub same : status ≢ Failed errors.OutOfMemory → end ≡ last
   pub safely : IsSafely safe last end
 
 -- step n is answered, and its text is written
@@ -215,8 +219,8 @@ pub record AnswersInPart (n : ℕ) (s : State) (asks : ShellLine) (t : State) (b
   pub written : AppendsFront before now text
 
 -- why a step is the last one: its text was not written whole, or memory ran out and nothing of it was written
-abbrev pub StopsAt : ℕ → State → ShellLine → ℕ → State → Option (List ℕ) → Option (List ℕ) → Type 0
-StopsAt n s asks status t before now = ((status ≡ 4) × AnswersInPart n s asks t before now) ⊎ ((status ≡ 8) × Keeps before now)
+abbrev pub StopsAt : ℕ → State → ShellLine → RunError → State → Option (List ℕ) → Option (List ℕ) → Type 0
+StopsAt n s asks why t before now = ((why ≡ errors.WriteFault) × AnswersInPart n s asks t before now) ⊎ ((why ≡ errors.OutOfMemory) × Keeps before now)
 
 -- a session that holds a transaction is ended, or it holds none and nothing changes
 pub record IsEnded {T : Type 0} (stored : T → Stored) (safe : T → T → Type 0) (session : Session) (s t : Shell T) (before now : Option (List ℕ)) : Type 0 where
@@ -235,8 +239,8 @@ abbrev pub EndsIfHeld : {T : Type 0} → (T → Stored) → (T → T → Type 0)
 EndsIfHeld stored safe session s t before now = IsEnded stored safe session s t before now ⊎ HasNone stored session s t before now
 
 -- the run ends at the end of a session: its text was not written whole, or memory ran out, or the disk failed
-pub record EndsAtEnd {T : Type 0} (stored : T → Stored) (safe : T → T → Type 0) (session : Session) (status : ℕ) (s t : Shell T) (before now : Option (List ℕ)) : Type 0 where
+pub record EndsAtEnd {T : Type 0} (stored : T → Stored) (safe : T → T → Type 0) (session : Session) (why : RunError) (s t : Shell T) (before now : Option (List ℕ)) : Type 0 where
   pub holds : IsTrue (is_some (held (stored s.store).events session.0))
-  pub stops : StopsAt 1 (state_of stored s) (line.Ask session request.End) status (state_of stored t) before now
-      ⊎ ((status ≡ 15) × Answers 1 (state_of stored s) (line.Ask session request.End) Stopped (state_of stored t) before now)
+  pub stops : StopsAt 1 (state_of stored s) (line.Ask session request.End) why (state_of stored t) before now
+      ⊎ ((why ≡ errors.DiskFault) × Answers 1 (state_of stored s) (line.Ask session request.End) Stopped (state_of stored t) before now)
   pub safely : IsSafely safe s t

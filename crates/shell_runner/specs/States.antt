@@ -22,8 +22,8 @@ use Rattle.tree_toml.specs.SetupText.{setup_of_text}
 use Rattle.store_setup.specs.Stores.{names_of, store_of_view}
 use Rattle.shell_lines.specs.declared.reply.StoreReply.{StoreReply}
 use Rattle.shell_lines.specs.declared.reply.StoreReply.TheVariants.{Reply, Later, Full, Unsure}
-use Rattle.shell_runner.specs.declared.store.TurnError.{TurnError}
-use Rattle.shell_runner.specs.declared.store.TurnError.TheVariants as turn
+use Rattle.shell_runner.specs.declared.store.EpochError.{EpochError}
+use Rattle.shell_runner.specs.declared.store.EpochError.TheVariants as errors
 
 -- the tree and the rows that the epoch began with, the names, the history of the epoch, how many of its commits were answered, how many bytes
 -- are left for it, and whether a call of the disk has failed
@@ -111,9 +111,9 @@ pub record IsDrained (H : List Event) : Type 0 where
   pub told : (s : Session) → ¬ IsUntold H s
 
 -- what keeps the next epoch from beginning is so
-abbrev pub IsTurnRefused : List Event → TurnError → Type 0
-IsTurnRefused H (turn.Unfinished t) = IsTrue (unfinished H t.0)
-IsTurnRefused H (turn.Untold s) = IsUntold H s
-IsTurnRefused H turn.Full = IsDrained H
-IsTurnRefused H turn.DiskFault = IsDrained H
-IsTurnRefused H turn.OutOfMemory = Unit {0}
+abbrev pub IsEpochRefused : List Event → EpochError → Type 0
+IsEpochRefused H (errors.Unfinished t) = IsTrue (unfinished H t.0)
+IsEpochRefused H (errors.Untold s) = IsUntold H s
+IsEpochRefused H errors.Full = IsDrained H
+IsEpochRefused H errors.DiskFault = IsDrained H
+IsEpochRefused H errors.OutOfMemory = Unit {0}

@@ -12,9 +12,8 @@ ghost use Rattle.shell_runner.specs.declared.shell.Shell.{Shell as TheShell};
 ghost use Rattle.shell_runner.specs.declared.step.After.{After as TheAfter};
 ghost use Rattle.shell_runner.specs.declared.step.After.TheVariants as afters;
 
-use crate::ended::Ended;
+use crate::ended::{EndStatus, Ended, RunError};
 use crate::requests::ask_store;
-use crate::status::DISK_FAULT;
 use crate::step::After;
 use crate::writing::write_step;
 use crate::{Shell, ShellStore};
@@ -27,15 +26,14 @@ pub(crate) fn end_sessions<T: ShellStore, K: Sink>(
     alloc: Global,
     shell: Shell<T>,
     tree: &[u8],
-    status: u8,
+    any_bad: bool,
     out: &mut K,
 ) -> Ended<T>
-    requires ready { IsReady tree.now (T.stored shell.store) }
-    requires status { (status ≢ 3) × (status ≢ 4) × (status ≢ 8) × (status ≢ 15) }
-    ensures ended { (first : TheShell T) (left before : Option (List ℕ)) → HasRead T.stored T.safe first left before status shell (K.written out.old)
+    requires { IsReady tree.now (T.stored shell.store) }
+    ensures ended { (first : TheShell T) (left before : Option (List ℕ)) → HasRead T.stored T.safe first left before any_bad shell (K.written out.old)
         → HasEnded T.stored T.safe first left before result.status result.shell (K.written out.new) }
-    ensures read { result.status ≢ 3 }
-    ensures write_fault { result.status ≡ 4 → Rose (K.faults out.old) (K.faults out.new) }
+    ensures read { result.status ≢ EndStatus.Failed RunError.ReadFault }
+    ensures write_fault { result.status ≡ EndStatus.Failed RunError.WriteFault → Rose (K.faults out.old) (K.faults out.new) }
 {
     let mut last = shell;
     for number in 1..SESSIONS + 1 {
@@ -43,34 +41,36 @@ pub(crate) fn end_sessions<T: ShellStore, K: Sink>(
         last = next;
         match ended {
             Ok(()) => {}
-            Err(status) => return Ended {
+            Err(error) => return Ended {
                 shell: last,
-                status,
+                status: EndStatus::Failed(error),
             },
         }
     }
     Ended {
         shell: last,
-        status,
+        status: EndStatus::Done { any_bad },
     }
 }
 
-/// Ends a session, if it holds a transaction, and writes the answer. Then it holds none. An `Err` is the status of a run that ends at
-/// once.
+/// Ends a session, if it holds a transaction, and writes the answer. Then it holds none.
+///
+/// # Errors
+/// Why the run ends early.
 fn end_if_held<T: ShellStore, K: Sink>(
     alloc: Global,
     shell: Shell<T>,
     tree: &[u8],
     session: Session,
     out: &mut K,
-) -> (Shell<T>, Result<(), u8>)
+) -> (Shell<T>, Result<(), RunError>)
     requires ready { IsReady tree.now (T.stored shell.store) }
     ensures ended { MatchResult result.1 (λ _. EndsIfHeld T.stored T.safe session shell result.0 (K.written out.old) (K.written out.new))
-        (λ status. EndsAtEnd T.stored T.safe session status shell result.0 (K.written out.old) (K.written out.new)) }
+        (λ why. EndsAtEnd T.stored T.safe session why shell result.0 (K.written out.old) (K.written out.new)) }
     ensures released { IfOk result.1 (λ _. IsReleased session.0 (T.stored shell.store).events (T.stored result.0.store).events) }
     ensures ready { IfOk result.1 (λ _. IsReady tree.now (T.stored result.0.store)) }
-    ensures read { IfErr result.1 (λ status. status ≢ 3) }
-    ensures write_fault { IfErr result.1 (λ status. status ≡ 4 → Rose (K.faults out.old) (K.faults out.new)) }
+    ensures read { IfErr result.1 (λ why. why ≢ RunError.ReadFault) }
+    ensures write_fault { IfErr result.1 (λ why. why ≡ RunError.WriteFault → Rose (K.faults out.old) (K.faults out.new)) }
     ensures writes { K.faults out.old ≤ K.faults out.new }
 {
     match shell.store.history().held(session) {
@@ -82,38 +82,44 @@ fn end_if_held<T: ShellStore, K: Sink>(
     }
 }
 
-/// An `Err` if the run ends at once.
-fn goes_on(after: Result<After, u8>) -> Result<(), u8>
-    ensures { MatchResult result (λ _. (a : TheAfter) × (after ≡ Ok a) × (a ≡ afters.Stopped → ⊥)) (λ status. (after ≡ Err status) ⊎ ((after ≡ Ok afters.Stopped) × (status ≡ 15))) }
+/// Goes on after a session was ended.
+///
+/// # Errors
+/// Why the run ends early; `DiskFault` after `Stopped`.
+fn goes_on(after: Result<After, RunError>) -> Result<(), RunError>
+    ensures { MatchResult result (λ _. (a : TheAfter) × (after ≡ Ok a) × (a ≡ afters.Stopped → ⊥)) (λ why. (after ≡ Err why) ⊎ ((after ≡ Ok afters.Stopped) × (why ≡ RunError.DiskFault))) }
 {
     match after {
-        Ok(After::Stopped) => Err(DISK_FAULT),
+        Ok(After::Stopped) => Err(RunError::DiskFault),
         Ok(After::Next) => Ok(()),
         Ok(After::Bad) => Ok(()),
         Ok(After::Quit) => Ok(()),
-        Err(status) => Err(status),
+        Err(error) => Err(error),
     }
 }
 
 /// Ends a session, and writes the answer.
+///
+/// # Errors
+/// Why the run ends early: `WriteFault` or `OutOfMemory`.
 fn end_session<T: ShellStore, K: Sink>(
     alloc: Global,
     shell: Shell<T>,
     tree: &[u8],
     session: Session,
     out: &mut K,
-) -> (Shell<T>, Result<After, u8>)
+) -> (Shell<T>, Result<After, RunError>)
     requires ready { IsReady tree.now (T.stored shell.store) }
     ensures step { MatchResult result.1
         (λ after. Answers 1 (state_of T.stored shell) (lines.Ask session requests.End) after (state_of T.stored result.0) (K.written out.old) (K.written out.new))
-        (λ status. StopsAt 1 (state_of T.stored shell) (lines.Ask session requests.End) status (state_of T.stored result.0) (K.written out.old) (K.written out.new)) }
+        (λ why. StopsAt 1 (state_of T.stored shell) (lines.Ask session requests.End) why (state_of T.stored result.0) (K.written out.old) (K.written out.new)) }
     ensures released { IsReached (T.stored shell.store) → IsTrue (is_some (held (T.stored shell.store).events session.0))
         → IfOk result.1 (λ _. IsReleased session.0 (T.stored shell.store).events (T.stored result.0.store).events) }
     ensures ready { IfOk result.1 (λ after. (after ≡ afters.Stopped → ⊥) → IsReady tree.now (T.stored result.0.store)) }
     ensures safe { IsSafely T.safe shell result.0 }
     ensures format { result.0.format ≡ shell.format }
-    ensures write_fault { IfErr result.1 (λ status. status ≡ 4 → Rose (K.faults out.old) (K.faults out.new)) }
-    ensures read { IfErr result.1 (λ status. status ≢ 3) }
+    ensures write_fault { IfErr result.1 (λ why. why ≡ RunError.WriteFault → Rose (K.faults out.old) (K.faults out.new)) }
+    ensures read { IfErr result.1 (λ why. why ≢ RunError.ReadFault) }
     ensures writes { K.faults out.old ≤ K.faults out.new }
 {
     let mut text = Vec::new(alloc);

@@ -15,20 +15,20 @@
 //!   commits and fewer than 65,536 bytes are left for it: then a Begin of a session without a transaction first begins the next
 //!   one, under the same tree. While a transaction is unfinished, or a session was not told of its abort, that session is told
 //!   `later` in its place.
-//! - A run *ends* at the end of the input or at `.quit`, after each session that holds a transaction is ended; or at a failure.
-//!   Its status is one of [`status`].
+//! - A run *ends* at the end of the input or at `.quit`, after each session that holds a transaction is ended; or early, at a
+//!   failure. Its [`EndStatus`] says which, and whether a line was bad.
 //!
 //! **What is proved.** The text is, line by line, what `IsAnswered` says of the line and of the store before it, and then the
-//! answers to the ends of the sessions that hold a transaction, in ascending number; a prefix of that text with status 4 ([`run`],
-//! clause `ended`: `HasEnded`). With status 0 or 7 no line is left, or the last one was `.quit`, or 2^64 - 2 lines were answered
-//! (`IsThrough`), and no session holds a transaction (`closed`). The status is 7 if a line was bad and else 0 (`status_of`), and 15
-//! only if the disk failed at the last step (`stopped`). Whatever a crash leaves between two states has the commits that the text
-//! before it acknowledges (`safe` of [`ShellStore`], in each `IsStep`). Status 3 and status 4 are left only if the source's or the
-//! sink's count of faults rose (`read_fault`, `write_fault`); with another status than 3 the source's count is as it was
-//! (`no_read_fault`). Status 5 is left only if the next line is too long (`too_long` of `HasEnded`), and no line that is answered is
-//! (`short` of `TakesStep`).
+//! answers to the ends of the sessions that hold a transaction, in ascending number; a prefix of that text if a write failed
+//! ([`run`], clause `ended`: `HasEnded`). If the run is `Done`, no line is left, or the last one was `.quit`, or 2^64 - 2 lines were
+//! answered (`IsThrough`), and no session holds a transaction (`closed`); `any_bad` is true if and only if a line was bad
+//! (`status_of`). `DiskFault` is returned only if the disk failed at the last step (`stopped`), `TooLong` only if the next line is
+//! too long (`too_long`), and no line that is answered is (`short` of `TakesStep`). Whatever a crash leaves between two states has
+//! the commits that the text before it acknowledges (`safe` of [`ShellStore`], in each `IsStep`). `ReadFault` and `WriteFault` are
+//! returned only if the source's or the sink's count of faults rose (`read_fault`, `write_fault`); with any other status than
+//! `ReadFault` the source's count is as it was (`no_read_fault`).
 //!
-//! **Not claimed**: that an input ends. After status 8 the shell may have asked the last line without an answer.
+//! **Not claimed**: that an input ends. After `OutOfMemory` the shell may have asked the last line without an answer.
 #![tactic(auto)]
 
 mod asking;
@@ -39,13 +39,12 @@ mod host;
 mod requests;
 mod running;
 mod shell;
-pub mod status;
 mod step;
 mod store;
 mod writing;
 
-pub use ended::Ended;
+pub use ended::{EndStatus, Ended, RunError};
 pub use host::{FileError, Host};
 pub use running::run;
 pub use shell::Shell;
-pub use store::{ShellStore, TurnError};
+pub use store::{EpochError, ShellStore};

@@ -6,14 +6,14 @@ ghost use Rattle.store_setup.specs.Sound.{IsNamed, IsWhole};
 ghost use Rattle.tree_toml.specs.SetupText.{setup_of_text};
 ghost use Rattle.shell_lines.specs.Answers.{reply_line};
 ghost use Rattle.shell_lines.specs.declared.reply.StoreReply.TheVariants as replies;
-ghost use Rattle.shell_runner.specs.States.{IsDrained, IsReady, IsTurnRefused};
-ghost use Rattle.shell_runner.specs.Answers.{BeginsAtEnd, HasFailed, HasToEnd, HasTurned, IsAsked, IsCheckpoint, ShowsReply, after_reply};
+ghost use Rattle.shell_runner.specs.States.{IsDrained, IsEpochRefused, IsReady};
+ghost use Rattle.shell_runner.specs.Answers.{BeginsAtEnd, HasFailed, HasToEnd, IsAsked, IsCheckpoint, IsNextEpoch, ShowsReply, after_reply};
 ghost use Rattle.shell_runner.specs.Runs.{IsSafely, IsSameOrSafe, state_of};
 ghost use Rattle.shell_runner.specs.declared.step.After.TheVariants as afters;
-ghost use Rattle.shell_runner.specs.declared.store.TurnError.TheVariants as errors;
+ghost use Rattle.shell_runner.specs.declared.store.EpochError.TheVariants as errors;
 
 use crate::step::After;
-use crate::{Shell, ShellStore, TurnError};
+use crate::{EpochError, Shell, ShellStore};
 use shell_lines::{Checkpoint, StoreReply, put_checkpoint, put_reply};
 use std::alloc::{AllocError, Global};
 use store_setup::Setup;
@@ -39,16 +39,16 @@ pub(crate) fn ask<T: ShellStore>(
     ensures safe { IsSafely T.safe shell result.0 }
     ensures format { result.0.format ≡ shell.format }
 {
-    if !has_to_turn(&shell.store, session, request) {
+    if !begins_at_end(&shell.store, session, request) {
         return ask_store(alloc, shell, tree, session, request, out);
     }
-    let (shell, turned) = turn(alloc, shell, tree);
-    match turned {
-        Ok(()) | Err(TurnError::Full) => ask_store(alloc, shell, tree, session, request, out),
-        Err(TurnError::DiskFault) => (shell, Ok(After::Stopped)),
-        Err(TurnError::OutOfMemory) => (shell, Err(AllocError)),
-        Err(TurnError::Unfinished(_)) => answer_later(shell, session, out),
-        Err(TurnError::Untold(_)) => answer_later(shell, session, out),
+    let (shell, begun) = begin_next_epoch(alloc, shell, tree);
+    match begun {
+        Ok(()) | Err(EpochError::Full) => ask_store(alloc, shell, tree, session, request, out),
+        Err(EpochError::DiskFault) => (shell, Ok(After::Stopped)),
+        Err(EpochError::OutOfMemory) => (shell, Err(AllocError)),
+        Err(EpochError::Unfinished(_)) => answer_later(shell, session, out),
+        Err(EpochError::Untold(_)) => answer_later(shell, session, out),
     }
 }
 
@@ -75,7 +75,7 @@ fn put_later(out: &mut Vec<u8>, names: &NameBook, session: Session) -> Result<Af
 }
 
 /// True if a session without a transaction asks to begin one in an epoch that has to end.
-fn has_to_turn<T: ShellStore>(store: &T, session: Session, request: Request) -> bool
+fn begins_at_end<T: ShellStore>(store: &T, session: Session, request: Request) -> bool
     ensures { IsTrue result ↔ BeginsAtEnd (T.stored store.now) session request }
 {
     match request {
@@ -150,35 +150,38 @@ pub(crate) fn checkpoint<T: ShellStore>(
     ensures safe { IsSafely T.safe shell result.0 }
     ensures format { result.0.format ≡ shell.format }
 {
-    let (shell, turned) = turn(alloc, shell, tree);
-    let checkpoint = match turned {
+    let (shell, begun) = begin_next_epoch(alloc, shell, tree);
+    let checkpoint = match begun {
         Ok(()) => Checkpoint::Begun(shell.epoch),
-        Err(TurnError::Unfinished(txn)) => Checkpoint::Unfinished(txn),
-        Err(TurnError::Untold(session)) => Checkpoint::Untold(session),
-        Err(TurnError::Full) => Checkpoint::Full,
-        Err(TurnError::DiskFault) => return (shell, Ok(After::Stopped)),
-        Err(TurnError::OutOfMemory) => return (shell, Err(AllocError)),
+        Err(EpochError::Unfinished(txn)) => Checkpoint::Unfinished(txn),
+        Err(EpochError::Untold(session)) => Checkpoint::Untold(session),
+        Err(EpochError::Full) => Checkpoint::Full,
+        Err(EpochError::DiskFault) => return (shell, Ok(After::Stopped)),
+        Err(EpochError::OutOfMemory) => return (shell, Err(AllocError)),
     };
     let put = put_checkpoint(out, checkpoint);
     (shell, next_if(put))
 }
 
 /// Begins the next epoch, under the same tree.
-fn turn<T: ShellStore>(
+///
+/// # Errors
+/// Why it has not begun. The shell is as it was, except for `DiskFault`.
+fn begin_next_epoch<T: ShellStore>(
     alloc: Global,
     shell: Shell<T>,
     tree: &[u8],
-) -> (Shell<T>, Result<(), TurnError>)
+) -> (Shell<T>, Result<(), EpochError>)
     requires ready { IsReady tree.now (T.stored shell.store) }
-    ensures turned { OnOk result.1 (HasTurned (state_of T.stored shell) (state_of T.stored result.0)) }
+    ensures begun { OnOk result.1 (IsNextEpoch (state_of T.stored shell) (state_of T.stored result.0)) }
     ensures ready { OnOk result.1 (IsReady tree.now (T.stored result.0.store)) }
-    ensures refused { IfErr result.1 (IsTurnRefused (T.stored shell.store).events) }
+    ensures refused { IfErr result.1 (IsEpochRefused (T.stored shell.store).events) }
     ensures kept { IfErr result.1 (λ why. (why ≡ errors.DiskFault → ⊥) → result.0 ≡ shell) }
     ensures safe { IsSameOrSafe T.safe shell result.0 }
     ensures format { result.0.format ≡ shell.format }
 {
     let Ok(setup) = setup_of(alloc, tree) else {
-        return (shell, Err(TurnError::OutOfMemory));
+        return (shell, Err(EpochError::OutOfMemory));
     };
     let Shell {
         store,
@@ -186,8 +189,8 @@ fn turn<T: ShellStore>(
         format,
         waits,
     } = shell;
-    let (store, turned) = store.next_epoch(alloc, setup);
-    let epoch = match turned {
+    let (store, begun) = store.next_epoch(alloc, setup);
+    let epoch = match begun {
         Ok(()) => epoch.saturating_add(1),
         Err(_) => epoch,
     };
@@ -197,7 +200,7 @@ fn turn<T: ShellStore>(
         format,
         waits,
     };
-    (shell, turned)
+    (shell, begun)
 }
 
 /// Reads a tree that was read before.

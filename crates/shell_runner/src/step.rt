@@ -77,6 +77,7 @@ fn show<T: ShellStore>(
     ensures goes_on { IfOk result (λ after. after ≡ afters.Stopped → ⊥) }
 {
     let store = &shell.store;
+    let waits = &shell.waits;
     match line {
         ShellLine::Rows(range) => put_rows(alloc, out, store.names(), range, &store.rows(alloc)?)?,
         ShellLine::Order => put_order(out, &store.order(alloc)?)?,
@@ -85,7 +86,7 @@ fn show<T: ShellStore>(
         ShellLine::Types => put_types(out, &store.names().types)?,
         ShellLine::Tree => put_tree(alloc, out, store.names(), &store.setup().tree)?,
         ShellLine::Guarantees => put_guarantees(out, &store.names().types, &store.setup().tree)?,
-        ShellLine::Sessions => put_sessions(out, store.names(), store.history(), &shell.waits)?,
+        ShellLine::Sessions => put_sessions(alloc, out, store.names(), store.history(), waits)?,
         ShellLine::Dump => return put_dump(alloc, out, number, store, shell.format),
         ShellLine::Read => return put_read(out, number, unread),
         ShellLine::Help => put_help(out)?,

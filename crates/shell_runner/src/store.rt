@@ -7,8 +7,8 @@ ghost use Rattle.shell_lines.specs.Answers.{StoreReplyNamed};
 ghost use Rattle.shell_lines.specs.declared.reply.StoreReply.TheVariants as replies;
 ghost use Rattle.store_setup.specs.SetupView.{setup_view};
 ghost use Rattle.store_setup.specs.Sound.{IsWhole};
-ghost use Rattle.shell_runner.specs.States.{AreFinalRows, HasNodeNames, IsDrained, IsNext, IsReached, IsReplied, IsTurnRefused, Stored};
-ghost use Rattle.shell_runner.specs.declared.store.TurnError.TheVariants as turn;
+ghost use Rattle.shell_runner.specs.States.{AreFinalRows, HasNodeNames, IsDrained, IsEpochRefused, IsNext, IsReached, IsReplied, Stored};
+ghost use Rattle.shell_runner.specs.declared.store.EpochError.TheVariants as errors;
 
 use shell_lines::StoreReply;
 use std::alloc::{AllocError, Global};
@@ -18,7 +18,7 @@ use teb_rules::names::{Cell, NameBook, Request, Session, Txn};
 
 /// Why an epoch is not followed by the next.
 #[derive(Clone, Copy)]
-pub enum TurnError {
+pub enum EpochError {
     /// This transaction is unfinished.
     Unfinished(Txn),
     /// This session holds an aborted transaction, and was not told of it.
@@ -101,14 +101,14 @@ pub trait ShellStore: Drop {
     ///
     /// # Errors
     /// With each the store is as it was, except for `DiskFault`.
-    fn next_epoch(self, alloc: Global, setup: Setup) -> (Self, Result<(), TurnError>)
+    fn next_epoch(self, alloc: Global, setup: Setup) -> (Self, Result<(), EpochError>)
         requires running { (Self.stored self).stopped ≡ false }
         requires whole { IsWhole (setup_view setup) }
         requires tables { setup.names.tables ≡ (Self.stored self).names.tables }
         ensures next { OnOk result.1 (IsNext (setup_view setup) (Self.stored self) (Self.stored result.0)) }
         ensures drained { OnOk result.1 (IsDrained (Self.stored self).events) }
         ensures running { OnOk result.1 ((Self.stored result.0).stopped ≡ false) }
-        ensures refused { IfErr result.1 (IsTurnRefused (Self.stored self).events) }
-        ensures kept { IfErr result.1 (λ why. (why ≡ turn.DiskFault → ⊥) → result.0 ≡ self) }
+        ensures refused { IfErr result.1 (IsEpochRefused (Self.stored self).events) }
+        ensures kept { IfErr result.1 (λ why. (why ≡ errors.DiskFault → ⊥) → result.0 ≡ self) }
         ensures safe { Self.safe self result.0 };
 }

@@ -1,3 +1,3 @@
 mod Named
 mod Opened
-pub mod Turned
+pub mod Refused

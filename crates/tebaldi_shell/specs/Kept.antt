@@ -9,8 +9,8 @@ use Rattle.engine_store.specs.Telling.{LeavesOnlyUntilRenewed, TellsCommits}
 use Rattle.engine_store.specs.declared.error.NextError.{NextError}
 use Rattle.engine_store.specs.declared.error.NextError.TheVariants as next
 use Rattle.shell_runner.specs.States.{Stored}
-use Rattle.shell_runner.specs.declared.store.TurnError.{TurnError}
-use Rattle.shell_runner.specs.declared.store.TurnError.TheVariants as turn
+use Rattle.shell_runner.specs.declared.store.EpochError.{EpochError}
+use Rattle.shell_runner.specs.declared.store.EpochError.TheVariants as errors
 
 abbrev pub KeptModel : Type 0 → Type 0
 KeptModel D = Kept.Stored EngineModel D
@@ -34,12 +34,12 @@ module _ {D : Type 0} (seen : D → List ℕ) (faults : D → ℕ) (moment : D �
   abbrev pub IsSafe : KeptModel D → KeptModel D → Type 0
   IsSafe s t = LeavesCommits s t t.engine.store t.engine.events ⊎ LeavesCommits s t s.engine.store s.engine.events
 
--- why no next epoch begins, as the shell has it; the tables are always the same
-abbrev pub IsTurnError : NextError → TurnError → Type 0
-IsTurnError next.Stopped w = w ≡ turn.DiskFault
-IsTurnError (next.Again t) w = w ≡ turn.Unfinished t
-IsTurnError (next.Untold s) w = w ≡ turn.Untold s
-IsTurnError next.OtherTables w = w ≡ turn.OutOfMemory
-IsTurnError next.Full w = w ≡ turn.Full
-IsTurnError next.DiskFault w = w ≡ turn.DiskFault
-IsTurnError next.OutOfMemory w = w ≡ turn.OutOfMemory
+-- why no next epoch begins, as the shell has it; the store runs, and the tables are always the same
+abbrev pub IsEpochError : NextError → EpochError → Type 0
+IsEpochError next.Stopped w = ⊥
+IsEpochError (next.Again t) w = w ≡ errors.Unfinished t
+IsEpochError (next.Untold s) w = w ≡ errors.Untold s
+IsEpochError next.OtherTables w = ⊥
+IsEpochError next.Full w = w ≡ errors.Full
+IsEpochError next.DiskFault w = w ≡ errors.DiskFault
+IsEpochError next.OutOfMemory w = w ≡ errors.OutOfMemory

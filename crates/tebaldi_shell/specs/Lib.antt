@@ -1,3 +1,4 @@
 pub mod Kept
 pub mod Serving
 pub mod Starts
+pub mod Status

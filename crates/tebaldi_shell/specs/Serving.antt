@@ -17,6 +17,7 @@ use Rattle.engine_store.specs.Telling.{AllTellCommits, TellsCommits}
 use Rattle.shell_lines.specs.Sessions.{no_waits}
 use Rattle.shell_runner.specs.States.{IsReady}
 use Rattle.shell_runner.specs.Runs.{HasEnded}
+use Rattle.shell_runner.specs.declared.ended.EndStatus.{EndStatus}
 use Rattle.shell_runner.specs.declared.shell.Shell.{Shell}
 use Rattle.tebaldi_shell.specs.Kept.{IsSafe, KeptModel, stored_of}
 
@@ -35,7 +36,7 @@ module _ {D : Type 0} (seen : D → List ℕ) (may_leave : D → List ℕ → Ty
         → LeavesOnly moment left_since disk s.journal.disk (TellsCommits (layout capacity (label_of view.tables)) X H least)
 
   -- the store was opened, and the shell has run over it
-  pub record HasServed (capacity : ℕ) (tree : List ℕ) (disk : D) (left before : Option (List ℕ)) (status : ℕ) (end : Shell (KeptModel D)) (now : Option (List ℕ)) : Type 0 where
+  pub record HasServed (capacity : ℕ) (tree : List ℕ) (disk : D) (left before : Option (List ℕ)) (status : EndStatus) (end : Shell (KeptModel D)) (now : Option (List ℕ)) : Type 0 where
     pub view : SetupView
     pub read : setup_of_text tree ≡ Ok view
     pub first : Shell (KeptModel D)

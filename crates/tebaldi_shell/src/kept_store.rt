@@ -1,7 +1,7 @@
 //! The store on a disk, as the shell asks it.
 
-ghost use Rattle.std.specs.Prelude.{◌≡◌};
-ghost use Rattle.tebaldi_shell.specs.Kept.{IsTurnError};
+ghost use Rattle.std.specs.Prelude.{◌≡◌, ◌≢◌};
+ghost use Rattle.tebaldi_shell.specs.Kept.{IsEpochError};
 
 use chain_pool::PooledChains;
 use crash_disk::Renew;
@@ -9,7 +9,7 @@ use engine_store::{EngineStore, NextError, NotNext};
 use epoch_store::AskError;
 use serial_order::{order, tables};
 use shell_lines::StoreReply;
-use shell_runner::{ShellStore, TurnError};
+use shell_runner::{EpochError, ShellStore};
 use std::alloc::{AllocError, Global};
 use std::marker::Model;
 use store_setup::Setup;
@@ -98,25 +98,29 @@ impl<D: Renew + Drop> ShellStore for KeptStore<D> {
         }
     }
 
-    fn next_epoch(self, alloc: Global, setup: Setup) -> (Self, Result<(), TurnError>) {
+    fn next_epoch(self, alloc: Global, setup: Setup) -> (Self, Result<(), EpochError>) {
         match self
             .store
             .next_epoch(alloc, setup, PooledChains::new(alloc))
         {
             Ok((store, _past)) => (KeptStore { store }, Ok(())),
-            Err(NotNext { store, why }) => (KeptStore { store }, Err(turn_error(why))),
+            Err(NotNext { store, why }) => (KeptStore { store }, Err(epoch_error(why))),
         }
     }
 }
 
-fn turn_error(why: NextError) -> TurnError
-    ensures { IsTurnError why result }
+/// Returns the error for the shell. The store runs, and its tables stay the same.
+fn epoch_error(why: NextError) -> EpochError
+    requires running { why ≢ NextError.Stopped }
+    requires tables { why ≢ NextError.OtherTables }
+    ensures { IsEpochError why result }
 {
     match why {
-        NextError::Again(txn) => TurnError::Unfinished(txn),
-        NextError::Untold(session) => TurnError::Untold(session),
-        NextError::Full => TurnError::Full,
-        NextError::Stopped | NextError::DiskFault => TurnError::DiskFault,
-        NextError::OtherTables | NextError::OutOfMemory => TurnError::OutOfMemory,
+        NextError::Again(txn) => EpochError::Unfinished(txn),
+        NextError::Untold(session) => EpochError::Untold(session),
+        NextError::Full => EpochError::Full,
+        NextError::DiskFault => EpochError::DiskFault,
+        NextError::OutOfMemory => EpochError::OutOfMemory,
+        NextError::Stopped | NextError::OtherTables => unreachable!(),
     }
 }

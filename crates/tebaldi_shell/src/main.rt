@@ -16,7 +16,8 @@
 //! **What is proved** of `serve`, over any disk, source and sink. The shell begins with the rows that the disk has, or with those
 //! of the text if the disk has none; of a disk that a crash left, these are the rows after the first k commits, and k is at least
 //! the number of commits that were answered (`HasOpened`). The text is what `shell_runner` proves. Whatever a crash leaves at any
-//! moment has all commits that the text before it acknowledges, and none but those of the history (`HasServed`, `IsSafe`).
+//! moment has all commits that the text before it acknowledges, and none but those of the history (`HasServed`, `IsSafe`). The exit
+//! code of a run is the one that docs/FORMATS.md lists (`code_of`).
 //!
 //! **Not claimed**: what `main` does around `serve`, which is read off the code: it opens the files, passes the streams, and says
 //! the reason on standard error. That the file keeps the bytes of the disk is trusted, as `file_disk` says.
@@ -26,24 +27,22 @@ mod kept_store;
 mod machine;
 mod messages;
 mod serving;
+mod status;
 
 use command_words::words_of;
 use file_disk::{FileDisk, OpenError};
 use machine::Machine;
-use messages::{BAD_WORDS, CANNOT_OPEN, say, tree_fault};
+use messages::{say, tree_fault};
 use output_writer::exit_code;
 use script_text::MOST_BYTES;
 use serving::{StartError, serve};
-use shell_runner::status::{DISK_FAULT, OUT_OF_MEMORY, READ_FAULT};
+use status::{BAD_WORDS, CANNOT_OPEN, DAMAGED, DISK_FAULT, OUT_OF_MEMORY, READ_FAULT, code_of};
 use std::alloc::Global;
 use std::env;
 use std::fs::File;
 use std::process::ExitCode;
 use teb_io::{ReadError, StdSink, StdSource, read_all};
 use tree_toml::{TreeText, read_tree};
-
-/// The status if the file is damaged.
-const DAMAGED: u8 = 14;
 
 /// How many bytes the file can hold: two halves with some 2.4 million rows each.
 const CAPACITY: u64 = 67_108_864;
@@ -97,7 +96,7 @@ fn run_under(rt: &HostRuntime, alloc: Global, file: &str, tree: &[u8]) -> u8 {
     let mut input = StdSource::new(rt.stdin());
     let mut out = StdSink::new(rt.stdout());
     match serve(alloc, disk, tree, &mut machine, &mut input, &mut out) {
-        Ok(ended) => ended.status,
+        Ok(ended) => code_of(ended.status),
         Err(why) => refuse(rt, alloc, &why),
     }
 }

@@ -1,17 +1,9 @@
 //! What is said on standard error if the shell does not start.
 
+use crate::status::BAD_TREE;
 use std::alloc::Global;
 use teb_io::{Sink, StdSink, write_whole};
 use tree_toml::{TreeText, put_fault};
-
-/// The status if the words are none of the program.
-pub const BAD_WORDS: u8 = 2;
-
-/// The status if the tree text is refused.
-pub const BAD_TREE: u8 = 6;
-
-/// The status if the file is in use, has other tables, or can't be opened.
-pub const CANNOT_OPEN: u8 = 13;
 
 /// Says a line on standard error, and returns the status.
 pub fn say(rt: &HostRuntime, status: u8, text: &str) -> u8 {

@@ -5,6 +5,8 @@ ghost use Rattle.teb_io.specs.Faults.{Rose};
 ghost use Rattle.store_setup.specs.SetupView.{setup_view};
 ghost use Rattle.store_setup.specs.Sound.{IsNamed, IsWhole};
 ghost use Rattle.tree_toml.specs.SetupText.{setup_of_text};
+ghost use Rattle.shell_runner.specs.declared.ended.EndStatus.TheVariants as statuses;
+ghost use Rattle.shell_runner.specs.declared.ended.RunError.TheVariants as errors;
 ghost use Rattle.tebaldi_shell.specs.Serving.{HasOpened, HasServed};
 ghost use Rattle.tebaldi_shell.specs.Starts.{IsRefusedTree};
 
@@ -52,9 +54,9 @@ pub fn serve<D: Renew + Drop, H: Host, S: Source, K: Sink>(
     // acknowledged.
     ensures served { IfOk result (λ ended. HasServed D.seen D.may_leave D.faults D.moment D.left_since (D.capacity disk) tree.now disk
         (S.left input.old) (K.written out.old) ended.status ended.shell (K.written out.new)) }
-    ensures read_fault { IfOk result (λ ended. ended.status ≡ 3 → Rose (S.faults input.old) (S.faults input.new)) }
-    ensures no_read_fault { IfOk result (λ ended. ended.status ≢ 3 → S.faults input.new ≡ S.faults input.old) }
-    ensures write_fault { IfOk result (λ ended. ended.status ≡ 4 → Rose (K.faults out.old) (K.faults out.new)) }
+    ensures read_fault { IfOk result (λ ended. ended.status ≡ statuses.Failed errors.ReadFault → Rose (S.faults input.old) (S.faults input.new)) }
+    ensures no_read_fault { IfOk result (λ ended. ended.status ≢ statuses.Failed errors.ReadFault → S.faults input.new ≡ S.faults input.old) }
+    ensures write_fault { IfOk result (λ ended. ended.status ≡ statuses.Failed errors.WriteFault → Rose (K.faults out.old) (K.faults out.new)) }
     ensures refused { IfErr result (IsRefusedTree tree.now) }
     ensures unread { OnErr result ((S.faults input.new ≡ S.faults input.old) × (S.left input.new ≡ S.left input.old) × (K.written out.new ≡ K.written out.old)) }
 {

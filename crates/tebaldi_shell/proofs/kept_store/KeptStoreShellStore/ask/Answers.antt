@@ -4,7 +4,7 @@ use Rattle.engine_core.specs.EngineModel.{EngineModel, IsOfEngine}
 use Rattle.shell_runner.specs.States.{LacksRoom}
 use Rattle.tebaldi_shell.specs.Kept.{KeptModel, stored_of}
 use Rattle.tebaldi_shell.proofs.Named.{answer_named, same_tables}
-use Rattle.tebaldi_shell.proofs.Turned.{lacks_room}
+use Rattle.tebaldi_shell.proofs.Refused.{lacks_room}
 use Rattle.tebaldi_shell.proofs.kept_store.KeptStoreShellStore.ask.Goals as goal
 use Rattle.tebaldi_shell.proofs.kept_store.KeptStoreShellStore.ask.Goals.{in-Ok, in-Err-Full, in-Err-Unsure, in-Err-OutOfMemory}
 

@@ -5,7 +5,7 @@ use Rattle.engine_core.specs.EngineModel.{EngineModel, IsOfEngine}
 use Rattle.shell_runner.specs.States.{IsReached}
 use Rattle.tebaldi_shell.specs.Kept.{KeptModel, stored_of}
 use Rattle.tebaldi_shell.proofs.Named.{events_named}
-use Rattle.tebaldi_shell.proofs.Turned.{reached_by}
+use Rattle.tebaldi_shell.proofs.Refused.{reached_by}
 use Rattle.tebaldi_shell.proofs.kept_store.KeptStoreShellStore.history.Goals as goal
 
 pub returns-clause-named : goal.returns-clause-named

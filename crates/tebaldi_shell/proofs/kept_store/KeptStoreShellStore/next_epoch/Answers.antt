@@ -1,18 +1,29 @@
 use Rattle.std.proofs.Common.{◌≡◌, sym, subst, true, false}
-use Rattle.engine_store.specs.declared.error.NextError.TheVariants as next
-use Rattle.shell_runner.specs.States.{IsDrained, IsTurnRefused}
+use Rattle.engine_store.specs.Next.{IsCause}
+use Rattle.shell_runner.specs.States.{IsDrained, IsEpochRefused}
 use Rattle.tebaldi_shell.specs.Kept.{KeptModel}
-use Rattle.tebaldi_shell.proofs.Turned.{drained, turn_refused}
+use Rattle.tebaldi_shell.proofs.Refused.{drained, epoch_refused}
 use Rattle.tebaldi_shell.proofs.kept_store.KeptStoreShellStore.next_epoch.Goals as goal
 
 pub returns-in-Ok-clause-drained : goal.returns-in-Ok-clause-drained
 returns-in-Ok-clause-drained g c = subst (λ (s : KeptModel _). IsDrained s.engine.events) c.self.view_is (drained c.self.inside.store.engine.events c.in-Ok.ensures.refused.drained)
 
+pub epoch_error-requires-clause-running : goal.epoch_error-requires-clause-running
+epoch_error-requires-clause-running g c = λ is.
+    let s = c.self.inside.store in
+    let runs : s.journal.stopped ≡ false = subst (λ (x : KeptModel _). x.journal.stopped ≡ false) (sym c.self.view_is) c.requires.running in
+    let stopped : s.journal.stopped ≡ true = c.in-Err.ensures.stopped is in
+    absurd (cc)
+
+pub epoch_error-requires-clause-tables : goal.epoch_error-requires-clause-tables
+epoch_error-requires-clause-tables g c = λ is.
+    let s = c.self.inside.store in
+    let same : c.args.setup.names.tables ≡ s.engine.names.tables = subst (λ (x : KeptModel _). c.args.setup.names.tables ≡ x.engine.names.tables) (sym c.self.view_is) c.requires.tables in
+    (subst (IsCause s.journal.layout s.engine c.args.setup.names.tables) is c.in-Err.ensures.refused).1 same
+
 pub returns-in-Err-clause-refused : goal.returns-in-Err-clause-refused
 returns-in-Err-clause-refused g c =
     let s = c.self.inside.store in
-    let why = c.in-Err.field-0.why in
-    let told = c.turn_error.result in
-    let runs : s.journal.stopped ≡ false = subst (λ (x : KeptModel _). x.journal.stopped ≡ false) (sym c.self.view_is) c.requires.running in
-    let not : why ≡ next.Stopped → ⊥ = λ is. let stopped : s.journal.stopped ≡ true = c.in-Err.ensures.stopped is in absurd (cc) in
-    subst (λ (x : KeptModel _). IsTurnRefused x.engine.events told) c.self.view_is (turn_refused s.journal.layout s.engine _ why told c.in-Err.ensures.refused c.turn_error.ensures not)
+    let told = c.epoch_error.result in
+    subst (λ (x : KeptModel _). IsEpochRefused x.engine.events told) c.self.view_is
+    (epoch_refused s.journal.layout s.engine _ c.in-Err.field-0.why told c.in-Err.ensures.refused c.epoch_error.ensures)

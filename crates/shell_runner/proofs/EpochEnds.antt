@@ -7,25 +7,25 @@ use Rattle.teb_rules.specs.declared.names.naming.NameBook.{NameBook}
 use Rattle.shell_lines.specs.Answers.{reply_line}
 use Rattle.shell_lines.specs.declared.reply.StoreReply.TheVariants.{Later}
 use Rattle.teb_rules.specs.declared.history.Event.{Event}
-use Rattle.shell_runner.specs.States.{IsDrained, IsHindered, IsTurnRefused}
-use Rattle.shell_runner.specs.declared.store.TurnError.{TurnError}
-use Rattle.shell_runner.specs.declared.store.TurnError.TheVariants as turn
-use Rattle.shell_runner.specs.Answers.{BeginsAtEnd, HasTurned, IsAsked, ShowsReply, State}
+use Rattle.shell_runner.specs.States.{IsDrained, IsEpochRefused, IsHindered}
+use Rattle.shell_runner.specs.declared.store.EpochError.{EpochError}
+use Rattle.shell_runner.specs.declared.store.EpochError.TheVariants as errors
+use Rattle.shell_runner.specs.Answers.{BeginsAtEnd, IsAsked, IsNextEpoch, ShowsReply, State}
 use Rattle.shell_runner.specs.declared.step.After.{After}
 use Rattle.shell_runner.specs.declared.step.After.TheVariants.{Next}
 
 -- the error names an unfinished transaction or a session that was not told of an abort
-abbrev pub IsSomebodys : TurnError → Type 0
-IsSomebodys (turn.Unfinished t) = Unit {0}
-IsSomebodys (turn.Untold s) = Unit {0}
+abbrev pub IsSomebodys : EpochError → Type 0
+IsSomebodys (errors.Unfinished t) = Unit {0}
+IsSomebodys (errors.Untold s) = Unit {0}
 IsSomebodys _ = ⊥
 
-pub hinders : (H : List Event) (w : TurnError) → IsTurnRefused H w → IsSomebodys w → IsHindered H
-hinders H (turn.Unfinished t) h is = inl (t, h)
-hinders H (turn.Untold s) h is = inr (s, h)
-hinders H turn.Full h is = absurd is
-hinders H turn.DiskFault h is = absurd is
-hinders H turn.OutOfMemory h is = absurd is
+pub hinders : (H : List Event) (w : EpochError) → IsEpochRefused H w → IsSomebodys w → IsHindered H
+hinders H (errors.Unfinished t) h is = inl (t, h)
+hinders H (errors.Untold s) h is = inr (s, h)
+hinders H errors.Full h is = absurd is
+hinders H errors.DiskFault h is = absurd is
+hinders H errors.OutOfMemory h is = absurd is
 
 module _ {E : Type 0} (s : State) (session : Session) (request : Request) (text : List ℕ) where
   pub asked_now : (t : State) (r : Result After E) → (BeginsAtEnd s.stored session request → ⊥) → IfOk r (λ (a : After). ShowsReply s session request text a t)
@@ -33,11 +33,11 @@ module _ {E : Type 0} (s : State) (session : Session) (request : Request) (text 
   asked_now t (Ok a) goes h = inl (record { goes_on = goes; replied = h })
   asked_now t (Err e) goes h = tt
 
-  pub asked_after : (mid t : State) (r : Result After E) → BeginsAtEnd s.stored session request → IsDrained s.stored.events → HasTurned s mid ⊎ (mid ≡ s)
+  pub asked_after : (mid t : State) (r : Result After E) → BeginsAtEnd s.stored session request → IsDrained s.stored.events → IsNextEpoch s mid ⊎ (mid ≡ s)
       → IfOk r (λ (a : After). ShowsReply mid session request text a t)
       → IfOk r (λ (a : After). IsAsked s session request text a t)
-  asked_after mid t (Ok a) begins drained turned h = inr (inr (inl (record { at_end = begins; drained = drained; mid = mid; turned = turned; replied = h })))
-  asked_after mid t (Err e) begins drained turned h = tt
+  asked_after mid t (Ok a) begins drained begun h = inr (inr (inl (record { at_end = begins; drained = drained; mid = mid; begun = begun; replied = h })))
+  asked_after mid t (Err e) begins drained begun h = tt
 
   pub told_later : (t : State) (names : NameBook) (r : Result After E) → BeginsAtEnd s.stored session request → IsHindered s.stored.events → t ≡ s → names ≡ s.stored.names
       → IfOk r (λ (a : After). (a ≡ Next) × (text ≡ reply_line names session Later)) → IfOk r (λ (a : After). IsAsked s session request text a t)

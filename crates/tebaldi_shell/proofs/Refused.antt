@@ -12,22 +12,22 @@ use Rattle.epoch_journal.specs.Layout.{Layout, half_size}
 use Rattle.engine_store.specs.Next.{IsCause}
 use Rattle.engine_store.specs.declared.error.NextError.{NextError}
 use Rattle.engine_store.specs.declared.error.NextError.TheVariants as next
-use Rattle.shell_runner.specs.States.{IsDrained, IsReached, IsTurnRefused, LacksRoom}
-use Rattle.shell_runner.specs.declared.store.TurnError.{TurnError}
-use Rattle.tebaldi_shell.specs.Kept.{IsTurnError, KeptModel, stored_of}
+use Rattle.shell_runner.specs.States.{IsDrained, IsEpochRefused, IsReached, LacksRoom}
+use Rattle.shell_runner.specs.declared.store.EpochError.{EpochError}
+use Rattle.tebaldi_shell.specs.Kept.{IsEpochError, KeptModel, stored_of}
 
 pub drained : (H : List Event) → Switch.IsDrained H → IsDrained H
 drained H d = record { finished = d.finished; told = λ s u. d.told s.0 (record { txn = u.txn; holds = u.holds; gone = u.gone }) }
 
-pub turn_refused : (l : Layout) (e : EngineModel) (tables : List (List ℕ)) (why : NextError) (w : TurnError) → IsCause l e tables why → IsTurnError why w → (why ≡ next.Stopped → ⊥)
-    → IsTurnRefused e.events w
-turn_refused l e tables next.Stopped w cause is not = absurd (not refl)
-turn_refused l e tables (next.Again t) w cause is not = subst (IsTurnRefused e.events) (sym is) cause.0
-turn_refused l e tables (next.Untold s) w cause is not = subst (IsTurnRefused e.events) (sym is) (let u = cause.1.0 in record { txn = u.txn; holds = u.holds; gone = u.gone })
-turn_refused l e tables next.OtherTables w cause is not = subst (IsTurnRefused e.events) (sym is) tt
-turn_refused l e tables next.Full w cause is not = subst (IsTurnRefused e.events) (sym is) (drained e.events cause.0.drained)
-turn_refused l e tables next.DiskFault w cause is not = subst (IsTurnRefused e.events) (sym is) (drained e.events cause.drained)
-turn_refused l e tables next.OutOfMemory w cause is not = subst (IsTurnRefused e.events) (sym is) tt
+pub epoch_refused : (l : Layout) (e : EngineModel) (tables : List (List ℕ)) (why : NextError) (w : EpochError) → IsCause l e tables why → IsEpochError why w
+    → IsEpochRefused e.events w
+epoch_refused l e tables next.Stopped w cause is = absurd is
+epoch_refused l e tables (next.Again t) w cause is = subst (IsEpochRefused e.events) (sym is) cause.0
+epoch_refused l e tables (next.Untold s) w cause is = subst (IsEpochRefused e.events) (sym is) (let u = cause.1.0 in record { txn = u.txn; holds = u.holds; gone = u.gone })
+epoch_refused l e tables next.OtherTables w cause is = absurd is
+epoch_refused l e tables next.Full w cause is = subst (IsEpochRefused e.events) (sym is) (drained e.events cause.0.drained)
+epoch_refused l e tables next.DiskFault w cause is = subst (IsEpochRefused e.events) (sym is) (drained e.events cause.drained)
+epoch_refused l e tables next.OutOfMemory w cause is = subst (IsEpochRefused e.events) (sym is) tt
 
 -- the session holds the unfinished transaction that it asks to commit
 record IsCommitOf (H : List Event) (s : Session) (r : Request) (txn : ℕ) : Type 0 where
