@@ -8,7 +8,8 @@
  *    the call, also in a buffer that the call only writes: initialize buffers with zeros.
  * 2. No two pointers of a call overlap, unless both are `const`.
  * 3. A `struct tebaldi_store` begins as TEBALDI_CLOSED. Only these functions read and write its fields. It may be moved in memory between
- *    calls. Of two copies of an open store, use one and forget the other.
+ *    calls. Of two copies of an open store, use one and forget the other. A `struct tebaldi_file` likewise: it begins as TEBALDI_FILE_CLOSED,
+ *    or as zeros, which mean the same.
  * 4. One call at a time uses a store. It may go to another thread if a lock, a thread's start or a join orders the calls.
  * 5. A `struct tebaldi_reply` that is passed in is zeros, or what a call has written. A `struct tebaldi_event` likewise.
  * 6. No function is called from a signal handler, or in the forked child of a process with threads.
@@ -40,7 +41,7 @@ enum {
     TEBALDI_NO_SUCH = 5,       /* no such name, number, event or reply */
     TEBALDI_OUT_OF_MEMORY = 6,
     TEBALDI_BAD_RUN = 7,       /* the printed run has a wrong line */
-    TEBALDI_TOO_LONG = 8,      /* the text has 2^32 - 1 bytes or more */
+    TEBALDI_TOO_LONG = 8,      /* the text has 2^32 - 1 bytes or more, or the file more than TEBALDI_FILE_CAPACITY */
     TEBALDI_OTHER_TABLES = 9,  /* the tables of the tree are not those of the store */
     TEBALDI_UNFINISHED = 10,   /* a transaction is unfinished */
     TEBALDI_UNTOLD = 11,       /* a session was not told that its transaction was aborted: it asks once more */
@@ -225,10 +226,12 @@ void tebaldi_close(struct tebaldi_store *store);
  * TEBALDI_WAITING, TEBALDI_STOPPED, TEBALDI_NO_ROOM and TEBALDI_UNSURE. */
 uint32_t tebaldi_ask(struct tebaldi_store *store, uint8_t session, const struct tebaldi_request *request, struct tebaldi_reply *reply);
 
-/* Finds the number of a name in a list. TEBALDI_NOT_OPEN, TEBALDI_NO_SUCH. */
+/* Finds the number of a name in a list: TEBALDI_TABLES, TEBALDI_TYPES or TEBALDI_NODES. A list of any other number is that of the nodes.
+ * TEBALDI_NOT_OPEN, TEBALDI_NO_SUCH. */
 uint32_t tebaldi_number(struct tebaldi_store *store, uint8_t list, const uint8_t *name, size_t name_len, uint8_t *number);
 
-/* Copies as much of a name as fits to `out`; `*len` is its length, at most 32. TEBALDI_NOT_OPEN, TEBALDI_NO_SUCH. */
+/* Copies as much of a name as fits to `out`; `*len` is its length, at most 32. The lists are those of tebaldi_number.
+ * TEBALDI_NOT_OPEN, TEBALDI_NO_SUCH. */
 uint32_t tebaldi_name(struct tebaldi_store *store, uint8_t list, uint8_t number, uint8_t *out, size_t room, size_t *len);
 
 /* Copies as much of the line of a reply to a session as fits to `out`, as `tebaldi replay` prints it, with its line feed; `*len` is the
@@ -279,7 +282,8 @@ struct tebaldi_file {
  * with another tree over the same tables.
  * TEBALDI_IS_OPEN, TEBALDI_BAD_TREE (as tebaldi_open), TEBALDI_OUT_OF_MEMORY; TEBALDI_BUSY; TEBALDI_IO; TEBALDI_TOO_LONG;
  * TEBALDI_DAMAGED, and then `*place` is where; TEBALDI_OTHER_CAPACITY, TEBALDI_OTHER_TABLES, TEBALDI_NO_ROOM. At each of them `file` is as it
- * was; and the bytes of the file too, except at TEBALDI_IO, where it stands for the same rows. */
+ * was; and the bytes of the file too, except at TEBALDI_IO, where it stands for the same rows. A file that a failed call has made stays: it is
+ * empty, and so new to the next call, except at TEBALDI_IO. */
 uint32_t tebaldi_file_open(struct tebaldi_file *file, const char *path, const uint8_t *tree, size_t tree_len, uint8_t *fault, size_t fault_room,
                            size_t *fault_len, uint64_t *place);
 

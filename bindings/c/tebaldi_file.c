@@ -1,7 +1,8 @@
 /* A store in a file: performs the writes and syncs that the library asks for, in their order, before a commit is told.
  *
  * This file is tested, and not proved. Its whole duty is in `perform`: each call of tebaldi_next_call is carried out on the file, and then
- * told by tebaldi_performed. If one fails, tebaldi_failed stops the store, and no commit is told from then on. */
+ * told by tebaldi_performed. If one fails, or the library refuses to show or to strike off a call, tebaldi_failed stops the store, and no
+ * commit is told from then on. */
 #ifndef _GNU_SOURCE
 #define _GNU_SOURCE
 #endif
@@ -17,6 +18,16 @@
 
 /* How many bytes of a write are taken at once. */
 enum { PIECE = 16384 };
+
+/* The least descriptor that a file has. It is not that of standard input, output or error, so a program that prints does not write to it by
+ * mistake; and 0, which a struct of zeros has, is no descriptor of a file. */
+enum { LEAST_FD = 3 };
+
+/* Whether there is a file. There is none in TEBALDI_FILE_CLOSED, which has -1, nor in zeros. */
+static bool has_file(const struct tebaldi_file *file)
+{
+    return file->fd > 0;
+}
 
 /* Writes all of some bytes at a place. Returns 0, or -1 and sets errno. */
 static int write_whole(int fd, const uint8_t *bytes, size_t len, uint64_t at)
@@ -54,21 +65,30 @@ static int carry_out(struct tebaldi_file *file, struct tebaldi_call call, uint8_
     return 0;
 }
 
-/* Performs all calls that wait. Returns 0; or -1 with errno, and the store is stopped. */
+/* Stops the store. Returns -1, with this errno. */
+static int stop(struct tebaldi_file *file, int why)
+{
+    tebaldi_failed(&file->store);
+    errno = why;
+    return -1;
+}
+
+/* Performs all calls that wait. Returns 0 once the library says that none waits; else -1 with errno, and the store is stopped. */
 static int perform(struct tebaldi_file *file)
 {
     uint8_t bytes[PIECE] = {0};
     struct tebaldi_call call = {0};
-    while (tebaldi_next_call(&file->store, 0, &call, bytes, PIECE) == TEBALDI_OK) {
-        if (carry_out(file, call, bytes) != 0) {
-            int why = errno;
-            tebaldi_failed(&file->store);
-            errno = why;
-            return -1;
-        }
-        tebaldi_performed(&file->store);
+    for (;;) {
+        uint32_t status = tebaldi_next_call(&file->store, 0, &call, bytes, PIECE);
+        if (status == TEBALDI_NO_SUCH)
+            return 0;
+        if (status != TEBALDI_OK)
+            return stop(file, EIO);
+        if (carry_out(file, call, bytes) != 0)
+            return stop(file, errno);
+        if (tebaldi_performed(&file->store) != TEBALDI_OK)
+            return stop(file, EIO);
     }
-    return 0;
 }
 
 /* Makes the name of a file in its folder safe. Returns 0, or -1 and sets errno. */
@@ -109,10 +129,22 @@ static int read_whole(int fd, size_t size, uint8_t **bytes)
     return 0;
 }
 
+/* Opens a file, or makes it. Returns its descriptor, LEAST_FD or more; or -1 and sets errno. */
+static int open_or_make(const char *path)
+{
+    int low = open(path, O_RDWR | O_CREAT | O_CLOEXEC, 0666);
+    if (low < 0 || low >= LEAST_FD)
+        return low;
+    int fd = fcntl(low, F_DUPFD_CLOEXEC, LEAST_FD), why = errno;
+    close(low);
+    errno = why;
+    return fd;
+}
+
 /* Opens a file and locks it. Returns TEBALDI_OK, TEBALDI_BUSY, or TEBALDI_IO with errno. */
 static uint32_t open_locked(const char *path, int *fd)
 {
-    *fd = open(path, O_RDWR | O_CREAT | O_CLOEXEC, 0666);
+    *fd = open_or_make(path);
     if (*fd < 0)
         return TEBALDI_IO;
     if (flock(*fd, LOCK_EX | LOCK_NB) == 0)
@@ -153,9 +185,9 @@ static uint32_t open_store(struct tebaldi_file *file, const char *path, const ui
 uint32_t tebaldi_file_open(struct tebaldi_file *file, const char *path, const uint8_t *tree, size_t tree_len, uint8_t *fault, size_t fault_room,
                            size_t *fault_len, uint64_t *place)
 {
-    if (file->fd >= 0)
+    if (has_file(file))
         return TEBALDI_IS_OPEN;
-    int fd = -1;
+    int fd = -1, before = file->fd;
     uint32_t status = open_locked(path, &fd);
     if (status != TEBALDI_OK)
         return status;
@@ -164,7 +196,7 @@ uint32_t tebaldi_file_open(struct tebaldi_file *file, const char *path, const ui
     if (status != TEBALDI_OK) {
         int why = errno;
         close(fd);
-        file->fd = -1;
+        file->fd = before;
         errno = why;
     }
     return status;
@@ -194,7 +226,7 @@ uint32_t tebaldi_file_next_epoch(struct tebaldi_file *file, const uint8_t *tree,
 void tebaldi_file_close(struct tebaldi_file *file)
 {
     tebaldi_close(&file->store);
-    if (file->fd >= 0)
+    if (has_file(file))
         close(file->fd);
     file->fd = -1;
 }

@@ -8,6 +8,7 @@
 #include <stdio.h>
 #include <string.h>
 #include <sys/resource.h>
+#include <sys/stat.h>
 #include <unistd.h>
 
 #include "tebaldi.h"
@@ -74,6 +75,13 @@ static void spoil(const char *path, off_t at, const char *bytes)
     close(fd);
 }
 
+static uint64_t size_of(const char *path)
+{
+    struct stat about;
+    want("there", (uint64_t)stat(path, &about), 0);
+    return (uint64_t)about.st_size;
+}
+
 static void lives(const char *path)
 {
     struct tebaldi_file file = TEBALDI_FILE_CLOSED, second = TEBALDI_FILE_CLOSED;
@@ -124,12 +132,38 @@ static void refuses(const char *path)
     struct tebaldi_file file = TEBALDI_FILE_CLOSED;
     want("no folder", open_at(&file, "no/such/folder/file", ""), TEBALDI_IO);
     want("errno", (uint64_t)errno, ENOENT);
+    want("bad tree", open_at(&file, path, "format = 9"), TEBALDI_BAD_TREE);
+    want("a new file stays", size_of(path), 0);
+    want("and is opened", open_at(&file, path, ""), TEBALDI_OK);
+    tebaldi_file_close(&file);
+    unlink(path);
     spoil(path, 0, "hello, this is no store");
     want("no store", open_at(&file, path, ""), TEBALDI_DAMAGED);
     want("place", place, 1);
     want("truncate", (uint64_t)truncate(path, TEBALDI_FILE_CAPACITY + 1), 0);
     want("too long", open_at(&file, path, ""), TEBALDI_TOO_LONG);
     unlink(path);
+}
+
+/* A struct of zeros is closed, and no file has the descriptor of standard input. */
+static void zeroed(const char *path)
+{
+    struct tebaldi_file file = {0};
+    close(0);
+    want("standard input", (uint64_t)open("/dev/null", O_RDONLY), 0);
+    tebaldi_file_close(&file);
+    want("standard input stays", fcntl(0, F_GETFD) >= 0, true);
+    memset(&file, 0, sizeof file);
+    want("bad tree", open_at(&file, path, "format = 9"), TEBALDI_BAD_TREE);
+    want("as it was", (uint64_t)file.fd, 0);
+    close(0);
+    want("open", open_at(&file, path, ""), TEBALDI_OK);
+    want("another descriptor", file.fd > 2, true);
+    want("open twice", open_at(&file, path, ""), TEBALDI_IS_OPEN);
+    want("commit", write_row(&file, 1, 10), TEBALDI_OK);
+    tebaldi_file_close(&file);
+    tebaldi_file_close(&file);
+    want("closed", write_row(&file, 1, 1), TEBALDI_NOT_OPEN);
 }
 
 /* The calls that a program performs itself. */
@@ -142,8 +176,10 @@ static void by_hand(void)
     const struct tebaldi_request begin = {.verb = TEBALDI_BEGIN};
     uint8_t fault[80] = {0}, out[8] = {0};
     size_t len = 0, calls = 0;
+    uint32_t who = 0;
     want("open", tebaldi_open_image(&store, out, 0, (const uint8_t *)"", 0, fault, sizeof fault, &len, &place), TEBALDI_OK);
     want("waits", tebaldi_ask(&store, 1, &begin, &reply), TEBALDI_WAITING);
+    want("waits", tebaldi_next_epoch(&store, (const uint8_t *)"", 0, fault, sizeof fault, &len, &who), TEBALDI_WAITING);
     for (; tebaldi_next_call(&store, 0, &call, out, sizeof out) == TEBALDI_OK; calls++)
         want("performed", tebaldi_performed(&store), TEBALDI_OK);
     want("calls", calls > 0, true);
@@ -151,6 +187,7 @@ static void by_hand(void)
     want("begin", tebaldi_ask(&store, 1, &begin, &reply), TEBALDI_OK);
     want("failed", tebaldi_failed(&store), TEBALDI_OK);
     want("stopped", tebaldi_ask(&store, 2, &begin, &reply), TEBALDI_STOPPED);
+    want("stopped", tebaldi_next_epoch(&store, (const uint8_t *)"", 0, fault, sizeof fault, &len, &who), TEBALDI_STOPPED);
     want("state", tebaldi_file_state(&store, &state), TEBALDI_OK);
     want("is stopped", state.stopped, true);
     tebaldi_close(&store);
@@ -173,6 +210,7 @@ int main(int count, char **words)
     lives("lives");
     stops("stops");
     refuses("refuses");
+    zeroed("zeroed");
     by_hand();
     printf("file: %d as wanted, %d not\n", wanted, not_wanted);
     return not_wanted != 0;

@@ -92,6 +92,9 @@ static void bad_names(void)
     EXPECT(number, 7);
     EXPECT(tebaldi_number(&store, TEBALDI_TABLES, (const uint8_t *)"t", 1, &number), TEBALDI_OK);
     EXPECT(number, 0);
+    number = 7;
+    EXPECT(tebaldi_number(&store, 200, (const uint8_t *)"root", 4, &number), TEBALDI_OK);
+    EXPECT(number, 0);
     EXPECT(tebaldi_name(&store, TEBALDI_TABLES, 1, text, sizeof text, &len), TEBALDI_NO_SUCH);
     memset(text, '.', sizeof text);
     EXPECT(tebaldi_name(&store, TEBALDI_NODES, 0, text, 2, &len), TEBALDI_OK);

@@ -69,6 +69,42 @@ static void tell(const void *bytes, size_t len)
         }                                                               \
     } while (0)
 
+/* Performs and tells the calls that wait on a file. */
+static void perform(struct tebaldi_store *store)
+{
+    uint8_t bytes[128] = {0};
+    struct tebaldi_call call = {0};
+    while (tebaldi_next_call(store, 0, &call, bytes, sizeof bytes) == TEBALDI_OK) {
+        tell(&call.kind, 1), tell(&call.at, sizeof call.at), tell(&call.len, sizeof call.len);
+        tell(bytes, sizeof bytes);
+        tebaldi_performed(store);
+    }
+}
+
+/* A store with a file: neither a commit nor the next epoch is unsure, or stops it. */
+static void run_file(void)
+{
+    static struct tebaldi_reply reply;
+    struct tebaldi_store store = TEBALDI_CLOSED;
+    uint8_t fault[64] = {0};
+    size_t len = 0;
+    uint64_t place = 0;
+    uint32_t who = 0;
+    const uint8_t *text = (const uint8_t *)tree;
+    TWICE(tebaldi_open_image(&store, text, 0, text, sizeof tree - 1, fault, sizeof fault, &len, &place));
+    perform(&store);
+    for (unsigned i = 0; i < 12; i++) {
+        const uint8_t verbs[] = {TEBALDI_BEGIN, TEBALDI_WRITE, TEBALDI_COMMIT};
+        struct tebaldi_request request = {.verb = verbs[i % 3], .key = i, .value = i};
+        TWICE(tebaldi_ask(&store, 1, &request, &reply));
+        tell(&reply.kind, 1), tell(&reply.txn, sizeof reply.txn);
+        perform(&store);
+    }
+    TWICE(tebaldi_next_epoch(&store, text, sizeof tree - 1, fault, sizeof fault, &len, &who));
+    perform(&store);
+    tebaldi_close(&store);
+}
+
 static void run(void)
 {
     static struct tebaldi_reply reply; /* zeros, and each call writes all of it */
@@ -110,15 +146,24 @@ static void run(void)
     TWICE(tebaldi_audit((const uint8_t *)run_text, sizeof run_text - 1, &line, &why));
 }
 
-int main(void)
+/* Refuses each block of a run in turn. Returns how many there are, and counts the runs that tell something else than the one to which none was
+ * refused. */
+static unsigned long refuse_each(void (*of)(void), unsigned long *wrong)
 {
-    run();
-    unsigned long want = told, blocks = asked, wrong = 0;
+    asked = told = refused = 0;
+    of();
+    unsigned long want = told, blocks = asked;
     for (unsigned long n = 1; n <= blocks; n++) {
         asked = told = 0, refused = n;
-        run();
-        wrong += told != want;
+        of();
+        *wrong += told != want;
     }
+    return blocks;
+}
+
+int main(void)
+{
+    unsigned long wrong = 0, blocks = refuse_each(run, &wrong) + refuse_each(run_file, &wrong);
     printf("%lu blocks refused in turn: %u calls asked again, %lu other answers\n", blocks, again, wrong);
     return wrong != 0;
 }

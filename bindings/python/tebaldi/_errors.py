@@ -1,5 +1,6 @@
 """What a call raises. Out of memory is Python's own MemoryError, and a file that cannot be used is an OSError."""
 
+import os
 from typing import Optional
 
 
@@ -94,7 +95,14 @@ class NoRoom(TebaldiError):
 
 
 class Unsure(TebaldiError):
-    """A call on the file failed: the file may have this commit, or the new epoch, or not. The store is stopped."""
+    """A call on the file failed: the file may have this commit, or the new epoch, or not. The store is stopped.
+
+    `errno` is the number of the system's error.
+    """
+
+    def __init__(self, why: str, errno: int):
+        super().__init__(f"{why}: {os.strerror(errno)}")
+        self.errno = errno
 
 
 class Stopped(TebaldiError):

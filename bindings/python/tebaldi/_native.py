@@ -6,7 +6,7 @@ import pathlib
 from ctypes import POINTER, Structure, c_bool, c_char_p, c_int, c_int64, c_size_t, c_uint8, c_uint32, c_uint64, c_void_p
 from typing import Any
 
-OK, BAD_TREE, BAD_VERB, NO_SUCH, OUT_OF_MEMORY, BAD_RUN, TOO_LONG = 0, 3, 4, 5, 6, 7, 8
+OK, NOT_OPEN, BAD_TREE, BAD_VERB, NO_SUCH, OUT_OF_MEMORY, BAD_RUN, TOO_LONG = 0, 1, 3, 4, 5, 6, 7, 8
 OTHER_TABLES, UNFINISHED, UNTOLD = 9, 10, 11
 STOPPED, UNSURE, NO_ROOM, WAITING, DAMAGED, OTHER_CAPACITY, BUSY, IO = range(12, 20)
 TABLES, TYPES, NODES = 0, 1, 2

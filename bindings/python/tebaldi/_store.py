@@ -60,7 +60,6 @@ class Event:
 
 _WHY = {
     native.NO_ROOM: (NoRoom, "it does not fit the file"),
-    native.UNSURE: (Unsure, "a call on the file failed: it may have this or not"),
     native.STOPPED: (Stopped, "a call on the file has failed"),
     native.OTHER_TABLES: (OtherTables, "the tree has other tables than the store"),
     native.BUSY: (Busy, "the file is open as a store already"),
@@ -72,11 +71,15 @@ _WHY = {
 def _check(status: int) -> None:
     if status == native.OUT_OF_MEMORY:
         raise MemoryError
+    if status == native.UNSURE:
+        raise Unsure("a call on the file failed: it may have this or not", get_errno())
     if status in _WHY:
         error, why = _WHY[status]
         raise error(why)
-    if status != native.OK:
+    if status == native.NOT_OPEN:
         raise ValueError("the store is closed")
+    if status != native.OK:
+        raise RuntimeError(f"the library returned status {status}, which this call does not have")
 
 
 def _check_tree(status: int, fault: Any, length: c_size_t) -> None:
@@ -86,6 +89,12 @@ def _check_tree(status: int, fault: Any, length: c_size_t) -> None:
 
 def _bytes(text: Union[str, bytes]) -> bytes:
     return text.encode() if isinstance(text, str) else bytes(text)
+
+
+def _verb(verb: str) -> int:
+    if verb not in native.VERBS[1:]:
+        raise ValueError(f"{verb!r} is no verb")
+    return native.VERBS.index(verb)
 
 
 def _within(name: str, number: int, bits: int) -> int:
@@ -125,8 +134,11 @@ class Store:
         Raises Busy if the file is open as a store already, OSError if it cannot be used, BadFile if it is no store or a damaged one,
         OtherTables, NoRoom and BadTree.
         """
+        name = os.fsencode(path)
+        if b"\0" in name:
+            raise ValueError("the path has a null byte")
         store = cls.__new__(cls)
-        name, text = os.fsencode(path), store._begin(tree)
+        text = store._begin(tree)
         fault, length, place = (c_uint8 * 256)(), c_size_t(), c_uint64()
         status = LIBRARY.tebaldi_file_open(store._file, name, text, len(text), fault, 256, byref(length), byref(place))
         if status == native.IO:
@@ -234,9 +246,10 @@ class Store:
         """Returns a transaction for a `with` block, which begins it, and commits it at its end.
 
         A request that has to wait sleeps, for `timeout` seconds at most: then it raises Again. `instance` says in which leaf of the
-        type the transaction runs. Raises NoSuchName if there is no such type.
+        type the transaction runs. Raises NoSuchName if there is no such type, as the `with` block does if the tree has another one by then.
         """
-        return Transaction(self, self._number(native.TYPES, type), _within("instance", instance, 32), timeout)
+        self._number(native.TYPES, type)
+        return Transaction(self, type, _within("instance", instance, 32), timeout)
 
     def run(self, type: str, body: Callable[[Transaction], T], *, instance: int = 0, attempts: int = 100, timeout: float = 10.0) -> T:
         """Runs body(transaction) as a transaction, commits it, and returns what the body returns.
@@ -258,11 +271,12 @@ class Store:
             count: int = 0) -> Reply:
         """Answers one request of a session, 1 to 32, with the tables and types by number, and without waiting.
 
-        `verb` is "begin", "read", "write", "add", "delete", "scan", "prepare", "commit", "abort" or "end".
+        `verb` is "begin", "read", "write", "add", "delete", "scan", "prepare", "commit", "abort" or "end". transaction() takes from the
+        same sessions, whichever are free to it: in a program that calls both, it finds the transactions that are begun here.
 
         Of a store in a file it raises Stopped, and at a commit also NoRoom and Unsure.
         """
-        asked = native.RawRequest(native.VERBS.index(verb), _within("type", type, 8), _within("table", table, 8),
+        asked = native.RawRequest(_verb(verb), _within("type", type, 8), _within("table", table, 8),
                                   _within("count", count, 8), _within("instance", instance, 32), _within("key", key, 32), _value(value))
         told = native.RawReply()
         with self._changed:
@@ -272,7 +286,10 @@ class Store:
             return self._reply(session, told)
 
     def number(self, list: str, name: str) -> int:
-        """Returns the number of a name; `list` is "table", "type" or "node". Raises NoSuchName if it is not there."""
+        """Returns the number of a name; `list` is "table", "type" or "node". Raises NoSuchName if it is not there.
+
+        After next_epoch() with another tree, a type or a node may have another number; tables keep theirs.
+        """
         return self._number(_WHAT.index(list), name)
 
     def name(self, list: str, number: int) -> str:
@@ -320,11 +337,18 @@ class Store:
         return Event(happened, raw.txn, cause=native.CAUSES[raw.cause.why])
 
     def _number(self, which: int, name: str) -> int:
+        known = self._numbers[which].get(name)
+        if known is not None:
+            return known
+        with self._lock:
+            return self._number_locked(which, name)
+
+    def _number_locked(self, which: int, name: str) -> int:
+        """The number of a name in the present epoch. The lock is held."""
         known = self._numbers[which]
         if name not in known:
             text, found = name.encode(), c_uint8()
-            with self._lock:
-                status = LIBRARY.tebaldi_number(self._at, which, text, len(text), byref(found))
+            status = LIBRARY.tebaldi_number(self._at, which, text, len(text), byref(found))
             if status == native.NO_SUCH:
                 raise NoSuchName(f"{_WHAT[which]} {name}")
             _check(status)
@@ -387,7 +411,7 @@ class Transaction:
 
     __slots__ = ("_store", "_type", "_instance", "_timeout", "_session", "number", "was_aborted")
 
-    def __init__(self, store: Store, type: int, instance: int, timeout: float):
+    def __init__(self, store: Store, type: str, instance: int, timeout: float):
         self._store, self._type, self._instance, self._timeout = store, type, instance, timeout
         self._session: Optional[_Session] = None
         self.number = 0
@@ -399,10 +423,8 @@ class Transaction:
             if not store._free and not store._sleep(lambda: store._free, self._timeout):
                 raise Again(0, "every session")
             self._session = store._free.pop()
-        request = self._session.request
-        request.type, request.instance = self._type, self._instance
         try:
-            self.number = self._call(_BEGIN).reply.txn
+            self._begin(self._session)
         except BaseException:
             self._end(False)
             raise
@@ -465,6 +487,19 @@ class Transaction:
         request.value = value if -0x8000000000000000 <= value <= 0x7FFFFFFFFFFFFFFF else _value(value)
         return self._call(verb)
 
+    def _begin(self, session: _Session) -> None:
+        """Begins, by the number that the type has in the present epoch."""
+        store, request = self._store, session.request
+        request.verb, request.instance = _BEGIN, self._instance
+        with store._lock:
+            request.type = store._number_locked(native.TYPES, self._type)
+            status = session.ask()
+            if status or session.reply.kind >= native.AGAIN:
+                self._other(session, status)
+            else:
+                store._note_change()
+        self.number = session.reply.txn
+
     def _call(self, verb: int) -> _Session:
         """Asks, sleeps as long as the answer is to ask again, and returns the session, which has the reply."""
         session = self._session or self._open()
@@ -485,6 +520,9 @@ class Transaction:
             seen = store._changes
             if not store._sleep(lambda: store._changes != seen, until - time.monotonic()):
                 raise Again(told.txn, store._name(native.NODES, told.node))
+            if session.request.verb == _BEGIN:
+                # (the next epoch may have begun meanwhile)
+                session.request.type = store._number_locked(native.TYPES, self._type)
             status = session.ask()
         _check(status)
         if told.kind == native.REFUSED:

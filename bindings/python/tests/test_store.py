@@ -1,6 +1,9 @@
 """What stores, transactions and exceptions do."""
 
 import ctypes
+import errno
+import json
+import os
 import pathlib
 import pydoc
 import tempfile
@@ -9,7 +12,8 @@ import time
 import unittest
 
 import tebaldi
-from tebaldi import _native, Aborted, Again, BadFile, BadRun, BadTree, Busy, NoSuchName, OtherTables, Refused, Store, TransactionOver, Unfinished
+from tebaldi import (_native, _store, Aborted, Again, BadFile, BadRun, BadTree, Busy, NoSuchName, OtherTables, Refused, Stopped, Store,
+                     TransactionOver, Unfinished, Unsure)
 
 ACCOUNTS = """
 format = 1
@@ -25,6 +29,12 @@ table = "account"
 key = 1
 value = 100
 """
+
+
+def of_types(*names: str) -> str:
+    """A tree with these types under one node of locks."""
+    types = "".join(f'[[type]]\nname = "{name}"\n' for name in names)
+    return f'format = 1\ntables = ["t"]\n{types}[[node]]\nname = "root"\ncontrol = "locks"\ntypes = {json.dumps(names)}\n'
 
 
 class StoreTest(unittest.TestCase):
@@ -146,6 +156,32 @@ class StoreTest(unittest.TestCase):
         with self.store.transaction("transfer") as t:
             self.assertEqual((t.number, t.read("account", 1)), (1, 5))
 
+    def test_a_transaction_has_its_type_in_the_next_epoch(self) -> None:
+        with Store(of_types("a", "b")) as store:
+            kept, lost = store.transaction("a"), store.transaction("b")
+            store.next_epoch(of_types("c", "a"))
+            with kept as t:
+                t.write("t", 1, 5)
+            self.assertEqual([event.type for event in store.events() if event.happened == "began"], ["a"])
+            self.assertEqual((store.number("type", "a"), store.number("table", "t")), (1, 0))
+            for _ in range(33):
+                with self.assertRaises(NoSuchName), lost:
+                    pass
+
+    def test_asks_only_by_a_verb(self) -> None:
+        for verb in ("", "wait"):
+            with self.assertRaises(ValueError):
+                self.store.ask(1, verb)
+        self.assertEqual(self.store.ask(1, "begin").kind, "begun")
+        self.assertEqual(self.store.ask(1, "end").why, "ended")
+
+    def test_tells_a_closed_store_from_other_statuses(self) -> None:
+        with self.assertRaisesRegex(ValueError, "closed"):
+            _store._check(_native.NOT_OPEN)
+        for status in (_native.BAD_VERB, _native.NO_SUCH, _native.WAITING):
+            with self.assertRaisesRegex(RuntimeError, f"status {status}\\b"):
+                _store._check(status)
+
     def test_audits(self) -> None:
         tebaldi.audit("order\nend\n")
         with self.assertRaises(BadRun) as caught:
@@ -211,6 +247,21 @@ class FileTest(unittest.TestCase):
         with self.assertRaises(FileNotFoundError):
             tebaldi.open_file(self.path.parent / "no" / "such")
         self.assertIsNone(Store().kept)
+
+    def test_a_path_is_not_cut(self) -> None:
+        with self.assertRaises(ValueError):
+            tebaldi.open_file(f"{self.path}\0.old")
+        self.assertFalse(self.path.exists())
+
+    def test_says_why_it_is_unsure(self) -> None:
+        with tebaldi.open_file(self.path, ACCOUNTS) as store:
+            with open(os.devnull) as none:
+                os.dup2(none.fileno(), store._raw.fd)
+            with self.assertRaises(Unsure) as caught, store.transaction("transfer") as t:
+                t.write("account", 1, 5)
+            self.assertEqual(caught.exception.errno, errno.EBADF)
+            with self.assertRaises(Stopped), store.transaction("transfer"):
+                pass
 
 
 if __name__ == "__main__":

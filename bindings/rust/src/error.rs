@@ -53,6 +53,7 @@ pub enum Error {
     /// The commit or the rows do not fit the file. Nothing has changed; the next epoch has room.
     NoRoom,
     /// A call on the file failed. The file may have this commit, or the new epoch, or not, and the store is stopped.
+    /// [`Store::stopped_by`](crate::Store::stopped_by) says why.
     Unsure,
     /// A call on the file has failed earlier. Open the file anew: it has every commit that was told.
     Stopped,

@@ -63,7 +63,9 @@ impl Session {
     /// Begins a transaction. Its calls do not wait: they return [`Error::Again`].
     ///
     /// # Errors
-    /// [`Error::Again`], [`Error::Refused`], [`Error::OutOfMemory`]; of a store in a file also [`Error::Stopped`].
+    /// [`Error::Again`], [`Error::Refused`], [`Error::OutOfMemory`]; of a store in a file also
+    /// [`Error::Stopped`]. [`Error::Aborted`] if [`Store::ask`] has begun a transaction in
+    /// this session that was aborted, and the session was not told of that: nothing is begun, and the next call begins.
     ///
     /// ```
     /// let store = tebaldi::Store::open("")?;
@@ -117,7 +119,10 @@ impl Session {
     ) -> Result<T, E> {
         let Limits { attempts, wait } = self.limits;
         for attempt in 1.. {
-            let mut txn = Txn::begin(self, kind, instance, Some(wait))?;
+            let mut txn = match Txn::begin(self, kind, instance, Some(wait)) {
+                Err(Error::Aborted(_)) if attempt < attempts => continue,
+                begun => begun?,
+            };
             let done = match body(&mut txn) {
                 Ok(value) => match txn.commit() {
                     Ok(()) => Ok(value),
@@ -174,6 +179,8 @@ impl<'a> Txn<'a> {
         match txn.reply(Request::Begin { kind, instance })? {
             Reply::Begun(number) => txn.number = number,
             Reply::Again { who, node } => return Err(Error::Again { who, node }),
+            // (an earlier transaction of the session, of which it was not told)
+            Reply::Aborted(cause) => return Err(Error::Aborted(cause)),
             Reply::Refused(why) => return Err(Error::Refused(why)),
             reply => unreachable!("a begin was answered {reply:?}"),
         }

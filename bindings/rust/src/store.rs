@@ -40,10 +40,22 @@ pub(crate) struct Shared {
 
 struct State {
     raw: RawFile,
+    /// The number of the system's error that has stopped the store.
+    stopped_by: Option<i32>,
     taken: [bool; 32],
     /// The number of calls so far that may let another session go on.
     changes: u64,
     waiters: u32,
+}
+
+impl State {
+    /// The error of a status that a call has just returned.
+    fn error_of(&mut self, status: u32) -> Error {
+        if status == ffi::UNSURE {
+            self.stopped_by = Some(errno());
+        }
+        error_of(status)
+    }
 }
 
 impl Drop for State {
@@ -82,7 +94,7 @@ impl Store {
         match status {
             OK => Ok(Store::of(raw)),
             ffi::BAD_TREE => Err(Error::BadTree(text(&fault, len).trim_end().to_string())),
-            _ => Err(Error::OutOfMemory),
+            _ => Err(error_of(status)),
         }
     }
 
@@ -138,6 +150,7 @@ impl Store {
     fn of(raw: RawFile) -> Store {
         let state = State {
             raw,
+            stopped_by: None,
             taken: [false; 32],
             changes: 0,
             waiters: 0,
@@ -161,6 +174,11 @@ impl Store {
         self.file_state().map(|file| file.left)
     }
 
+    /// The number of the system's error by which a call on the file failed at [`Error::Unsure`]; `None` if none has.
+    pub fn stopped_by(&self) -> Option<i32> {
+        self.shared.lock().stopped_by
+    }
+
     fn file_state(&self) -> Option<RawFileState> {
         let mut file = RawFileState::default();
         let mut state = self.shared.lock();
@@ -171,6 +189,7 @@ impl Store {
 
     /// Ends the present epoch, and begins the next one with the rows that it leaves, under a tree text with the same tables, whose
     /// rows are not used. The history begins anew, and transactions count from 1 again. An epoch has room for 8,192 transactions.
+    /// A [`Table`] keeps its number. Under another tree a [`Kind`] or a [`Node`] may have another one: ask for it anew.
     ///
     /// # Errors
     /// [`Error::BadTree`], [`Error::Unfinished`], [`Error::Untold`], [`Error::OtherTables`], [`Error::NoRoom`], [`Error::OutOfMemory`]. The
@@ -212,7 +231,7 @@ impl Store {
             ffi::OTHER_TABLES => Err(Error::OtherTables),
             ffi::UNFINISHED => Err(Error::Unfinished(TxnNumber(who))),
             ffi::UNTOLD => Err(Error::Untold(who as u8)),
-            _ => Err(error_of(status)),
+            _ => Err(state.error_of(status)),
         }
     }
 
@@ -286,7 +305,10 @@ impl Store {
         session.run(kind, body)
     }
 
-    /// Asks for a session by its number, whether or not it is taken, and returns the reply as it is.
+    /// Asks for a session by its number, 1 to 32, whether or not it is taken, and returns the reply as it is.
+    ///
+    /// [`Store::session`] takes from the same sessions. A transaction that is begun here is found by the [`Session`] of that number, so
+    /// a program that calls both asks only for sessions that it has taken.
     ///
     /// # Errors
     /// [`Error::OutOfMemory`]; of a store in a file also [`Error::NoRoom`], [`Error::Unsure`] and [`Error::Stopped`].
@@ -321,7 +343,7 @@ impl Store {
         match status {
             OK => Ok(Some(text(&out, len))),
             NO_SUCH => Ok(None),
-            _ => Err(Error::OutOfMemory),
+            _ => Err(error_of(status)),
         }
     }
 
@@ -407,7 +429,8 @@ impl Store {
         };
         match status {
             OK => Ok(number),
-            _ => Err(Error::NoSuchName(format!("{what} {name}"))),
+            NO_SUCH => Err(Error::NoSuchName(format!("{what} {name}"))),
+            _ => Err(error_of(status)),
         }
     }
 
@@ -480,7 +503,7 @@ impl Shared {
             }
         };
         if status != OK {
-            return Err(error_of(status));
+            return Err(state.error_of(status));
         }
         let reply = Reply::of(&told);
         if !matches!(reply, Reply::Again { .. } | Reply::Refused(_)) {
@@ -525,8 +548,7 @@ pub fn audit(text: impl AsRef<[u8]>) -> Result<(), Error> {
             line,
             why: WHYS[usize::from(why) - 1],
         }),
-        ffi::OUT_OF_MEMORY => Err(Error::OutOfMemory),
-        _ => Err(Error::TooLong),
+        status => Err(error_of(status)),
     }
 }
 
@@ -542,9 +564,15 @@ pub fn version() -> (u32, u32, u32) {
     (version.major, version.minor, version.patch)
 }
 
-/// The error of a status that no other call has.
+/// The number of the system's error that the last call has left.
+fn errno() -> i32 {
+    io::Error::last_os_error().raw_os_error().unwrap_or(0)
+}
+
+/// The error of a status that needs nothing else of its call.
 fn error_of(status: u32) -> Error {
     match status {
+        ffi::OUT_OF_MEMORY => Error::OutOfMemory,
         ffi::TOO_LONG => Error::TooLong,
         ffi::OTHER_TABLES => Error::OtherTables,
         ffi::STOPPED => Error::Stopped,
@@ -552,8 +580,9 @@ fn error_of(status: u32) -> Error {
         ffi::NO_ROOM => Error::NoRoom,
         ffi::OTHER_CAPACITY => Error::OtherCapacity,
         ffi::BUSY => Error::Busy,
-        ffi::IO => Error::Io(io::Error::last_os_error().raw_os_error().unwrap_or(0)),
-        _ => Error::OutOfMemory,
+        ffi::IO => Error::Io(errno()),
+        // (the store is open, each request has a verb, and no call on its file waits)
+        _ => unreachable!("the library returned status {status}, which this call does not have"),
     }
 }
 
@@ -568,8 +597,9 @@ fn filled<T: Default + Clone>(
     let mut list: Vec<T> = Vec::new();
     let mut len = 0;
     loop {
-        if call(list.as_mut_ptr(), list.len(), &mut len) != OK {
-            return Err(Error::OutOfMemory);
+        let status = call(list.as_mut_ptr(), list.len(), &mut len);
+        if status != OK {
+            return Err(error_of(status));
         }
         if len == list.len() {
             return Ok(list);

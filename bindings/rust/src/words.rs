@@ -6,11 +6,13 @@ use crate::ffi::{RawCause, RawEvent, RawReply, RawRequest};
 #[derive(Clone, Copy, Debug, PartialEq, Eq, PartialOrd, Ord, Hash)]
 pub struct Table(pub u8);
 
-/// A type of transactions, by its number.
+/// A type of transactions, by its number. After [`Store::next_epoch`](crate::Store::next_epoch) under another tree the type of that name
+/// may have another number: ask for it anew.
 #[derive(Clone, Copy, Debug, PartialEq, Eq, PartialOrd, Ord, Hash)]
 pub struct Kind(pub u8);
 
-/// A node of the tree, by its number.
+/// A node of the tree, by its number, which may be that of another node after [`Store::next_epoch`](crate::Store::next_epoch) under
+/// another tree.
 #[derive(Clone, Copy, Debug, PartialEq, Eq, PartialOrd, Ord, Hash)]
 pub struct Node(pub u8);
 

@@ -1,5 +1,6 @@
 //! What transactions, sessions and errors do.
 
+use std::os::unix::io::AsRawFd;
 use std::thread;
 use std::time::{Duration, Instant};
 use tebaldi::{Cause, Cell, Error, Event, Limits, Refusal, Reply, Request, Store};
@@ -102,6 +103,41 @@ fn a_run_starts_over_after_an_abort_and_within_its_limit() {
     });
     assert!(matches!(done, Err(Error::Aborted(Cause::Newer { .. }))));
     assert_eq!(starts, 3);
+}
+
+#[test]
+fn a_begin_tells_of_an_abort_that_was_left_in_its_session() {
+    let store = Store::open("format = 1\ntables = [\"t\"]\n[[type]]\nname = \"any\"\n[[node]]\nname = \"root\"\ncontrol = \"timestamp\"\ntypes = [\"any\"]\n").unwrap();
+    let (t, any) = (store.table("t").unwrap(), store.kind("any").unwrap());
+    let (mut first, mut second) = (store.session().unwrap(), store.session().unwrap());
+    // A transaction in the second session reads from one that is aborted then.
+    let mut leave = |session: u8| {
+        let mut older = first.begin(any).unwrap();
+        older.write(t, 1, 5).unwrap();
+        let begin = Request::Begin {
+            kind: any,
+            instance: 0,
+        };
+        assert!(matches!(store.ask(session, begin), Ok(Reply::Begun(_))));
+        let read = store.ask(session, Request::Read(Cell { table: t, key: 1 }));
+        assert_eq!(read, Ok(Reply::Value(Some(5))));
+        older.abort();
+    };
+    leave(second.number());
+    assert!(matches!(
+        second.begin(any),
+        Err(Error::Aborted(Cause::After(_)))
+    ));
+    assert_eq!(second.begin(any).unwrap().commit(), Ok(()));
+    leave(second.number());
+    assert_eq!(second.run(any, |txn| txn.read(t, 1)), Ok(None));
+    leave(second.number());
+    second.set_limits(Limits {
+        attempts: 1,
+        ..Limits::default()
+    });
+    let done = second.run(any, |txn| txn.read(t, 1));
+    assert!(matches!(done, Err(Error::Aborted(Cause::After(_)))));
 }
 
 #[test]
@@ -261,4 +297,51 @@ fn a_file_is_refused() {
         Err(Error::Io(2))
     ));
     assert_eq!(blank().0.kept(), None);
+}
+
+extern "C" {
+    fn dup2(from: i32, to: i32) -> i32;
+}
+
+/// The descriptor by which this process has a file open.
+fn descriptor_of(path: &std::path::Path) -> i32 {
+    let path = path.canonicalize().unwrap();
+    let open = std::fs::read_dir("/proc/self/fd").unwrap();
+    let found = open.map(Result::unwrap).find(|it| {
+        let leads_to = std::fs::read_link(it.path());
+        leads_to.map_or(false, |file| file == path)
+    });
+    found
+        .unwrap()
+        .file_name()
+        .to_str()
+        .unwrap()
+        .parse()
+        .unwrap()
+}
+
+#[test]
+fn a_store_says_what_has_stopped_it() {
+    let place = Place::new("stopped");
+    let store = Store::open_file(&place.0, "").unwrap();
+    let (t, any) = (store.table("t").unwrap(), store.kind("any").unwrap());
+    let mut session = store.session().unwrap();
+    assert_eq!(
+        store.run(&mut session, any, |txn| txn.write(t, 1, 5)),
+        Ok(())
+    );
+    assert_eq!(store.stopped_by(), None);
+    let none = std::fs::File::open("/dev/null").unwrap();
+    // SAFETY: the store's descriptor is open, and becomes one that cannot be written.
+    unsafe { dup2(none.as_raw_fd(), descriptor_of(&place.0)) };
+    let unsure = store.run(&mut session, any, |txn| txn.write(t, 1, 6));
+    assert_eq!((unsure, store.stopped_by()), (Err(Error::Unsure), Some(9)));
+    let stopped = store.run(&mut session, any, |txn| txn.write(t, 1, 7));
+    assert_eq!(
+        (stopped, store.stopped_by()),
+        (Err(Error::Stopped), Some(9))
+    );
+    drop((session, store));
+    let again = Store::open_file(&place.0, "").unwrap();
+    assert_eq!(again.rows().unwrap(), [(Cell { table: t, key: 1 }, 5)]);
 }

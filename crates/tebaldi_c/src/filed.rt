@@ -29,6 +29,10 @@ const MOST_CALLS: usize = 32_768;
 
 /// A store in a file. It makes no call of the system: its disk in memory notes the writes and syncs, the caller performs them on the file
 /// in their order, and tells of each.
+///
+/// The disk in memory does not fail: it has no stop, and memory for the calls of a commit or a checkpoint is reserved before the first of
+/// them (`EngineStore`, clause `memory`). So `ask` does not return `Unsure`, nor `next_epoch` `DiskFault`. That holds by inspection of the
+/// code: the contracts of a store over any disk do not say that its disk fails only at a stop or out of memory.
 #[derive(Drop)]
 pub struct FileStore {
     pub(crate) store: EngineStore<PooledChains, MemDisk>,

@@ -24,7 +24,7 @@ pub const OUT_OF_MEMORY: u32 = 6;
 /// The printed run has a wrong line.
 pub const BAD_RUN: u32 = 7;
 
-/// The text is too long.
+/// The text or the file is too long.
 pub const TOO_LONG: u32 = 8;
 
 /// The tables of the tree are not those of the store.
