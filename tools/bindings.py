@@ -10,7 +10,7 @@
 It builds bindings/out/libtebaldi.a and libtebaldi.so, and then counts: the C tests and examples under the address and undefined behaviour
 sanitizers, the memory of a store in a file over 200,000 commits, the tests and examples in Rust and in Python, four threads over one store in each language, a program over a file in each language
 that is killed again and again, the programs of README.md, and each worked run of `replay` in each language. It prints two figures: what an ask costs from C, and a transfer from Python. If a program is missing, it is named with the apt package that has it, and what
-needs it has failed.
+needs it has failed. After the gate a library that is missing has failed too.
 """
 
 import argparse
@@ -46,7 +46,7 @@ KILLS = {"C": 50, "Rust": 10, "Python": 10}
 class Tally:
     def __init__(self, skips):
         self.passed = self.failed = 0
-        self.skips = skips
+        self.skips, self.skipped = skips, []
 
     def count(self, name, why):
         """Counts what passed if there is no reason why it failed. Returns whether it passed."""
@@ -61,7 +61,8 @@ class Tally:
         missing = [program for program in programs if not shutil.which(program)]
         hints = [f"there is no {program}" + (f": apt install {PACKAGES[program]}" if PACKAGES[program] else "") for program in missing]
         if missing and self.skips:
-            print(f"bindings: SKIPPED {what}: {'; '.join(hints)}", flush=True)
+            self.skipped.append(f"{what}: {'; '.join(hints)}")
+            print(f"bindings: SKIPPED {self.skipped[-1]}", flush=True)
         elif missing:
             self.count(what, "; ".join(hints))
         return not missing
@@ -122,10 +123,11 @@ def try_c(tally):
         program = compiled(tally, C / "tests" / f"{name}.c", SANITIZED, "-pthread")
         if program:
             tally.count(f"C {name}", why_of(run(program), wanted))
-    program = compiled(tally, C / "tests" / "file.c")
-    if program:
-        with tempfile.TemporaryDirectory() as folder:
-            tally.count("C file", why_of(run(program, folder), r"file: \d+ as wanted, 0 not\n"))
+    for name in ("file", "refused_calls"):
+        program = compiled(tally, C / "tests" / f"{name}.c")
+        if program:
+            with tempfile.TemporaryDirectory() as folder:
+                tally.count(f"C {name}", why_of(run(program, folder), rf"{name}: \d+ as wanted, 0 not\n"))
     program = compiled(tally, C / "tests" / "level.c", [*WARNINGS, "-O2"])
     if program:
         ran = run(program)
@@ -189,6 +191,20 @@ def try_python(tally):
     return [sys.executable, PYTHON / "examples" / "replay.py"]
 
 
+def command_of(tally, language, source):
+    """The command that runs a program of README.md; None if it does not compile, or its compiler is missing."""
+    if language == "python":
+        return [sys.executable, source]
+    if language == "c":
+        program = compiled(tally, source)
+        return program and [program]
+    if not tally.has("README rust", "cargo", "rustc"):
+        return None
+    program, library = OUT / "readme_rust", OUT / "cargo" / "release" / "libtebaldi.rlib"
+    built = run("rustc", "--edition", "2021", source, "--extern", f"tebaldi={library}", "-L", f"native={OUT}", "-o", program)
+    return [program] if tally.count("rustc readme.rs", why_of(built)) else None
+
+
 def try_readme(tally):
     """Runs the programs that README.md shows, each with its output below it."""
     text = (TOP / "README.md").read_text()
@@ -198,15 +214,8 @@ def try_readme(tally):
             continue
         source = OUT / ("readme" + {"c": ".c", "rust": ".rs", "python": ".py"}[language])
         source.write_text(found[1])
-        command = [sys.executable, source]
-        if language == "c":
-            command = [compiled(tally, source)]
-        elif language == "rust":
-            command = [OUT / "readme_rust"]
-            library = OUT / "cargo" / "release" / "libtebaldi.rlib"
-            built = run("rustc", "--edition", "2021", source, "--extern", f"tebaldi={library}", "-L", f"native={OUT}", "-o", command[0])
-            tally.count("rustc readme.rs", why_of(built))
-        if command[0]:
+        command = command_of(tally, language, source)
+        if command:
             tally.count(f"README {language} runs", why_of(run(*command), re.escape(found[2])))
 
 
@@ -265,16 +274,18 @@ def main():
     options.add_argument("--after-gate", action="store_true")
     options.add_argument("--figures", action="store_true")
     given = options.parse_args()
-    if given.after_gate and not kit_rt.note_libraries(kit_rt.load(), str(TOP), "tebaldi_c"):
-        print("bindings: SKIPPED: the gate has left no libraries to build over: ./check bindings proves them again")
-        print("0 passed, 0 failed")
-        return 0
     tally = Tally(given.skip_missing)
-    if tally.has("the library", *(["gcc", "ar"] if given.library else ["rt", "gcc", "ar"])) and tally.count("the library", make_library(given.library)):
+    lacking = kit_rt.note_libraries(kit_rt.load(), str(TOP), "tebaldi_c") if given.after_gate else []
+    if lacking:
+        why = f"the gate has left none of the present files for {', '.join(lacking)}: ./check build proves them again, and ./check bindings tries them"
+        tally.count("the libraries below tebaldi_c", why)
+    elif tally.has("the library", *(["gcc", "ar"] if given.library else ["rt", "gcc", "ar"])) and tally.count("the library", make_library(given.library)):
         replayers = {"C": try_c(tally), "Rust": try_rust(tally), "Python": try_python(tally)}
         try_readme(tally)
         try_figures(tally, given.figures)
         try_runs(tally, {language: words for language, words in replayers.items() if words})
+    for it in tally.skipped:
+        print(f"bindings: not tried: {it}")
     print(f"{tally.passed} passed, {tally.failed} failed")
     return tally.failed != 0
 

@@ -34,7 +34,8 @@ def note_libraries(rt, top, name):
     """Notes of each library below a crate that it is made of the present files, where `rt ci` has just made it and left no such note.
 
     Call it after a gate that passed, with no edit since: other commands then build on these libraries, and do not prove them again.
-    Returns whether each library is there.
+    Returns the names of those that are not there, or not of the present files: `rt ci` puts back the libraries that earlier checks had left,
+    in place of those that it has made.
     """
     below = next(it for it in rt.rtlib.crates_below(top) if it.name == name).below()
     for it in below:
@@ -42,7 +43,7 @@ def note_libraries(rt, top, name):
         if os.path.isdir(it.rlib) and not os.path.exists(note):
             with open(note, "w", encoding="utf-8") as file:
                 file.write(it.stamp())
-    return all(it.is_built() for it in below)
+    return [it.name for it in below if not it.is_built()]
 
 
 def make_quick(crate):

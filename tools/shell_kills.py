@@ -5,9 +5,12 @@
 
 Each round makes up a script of one session that writes and commits, gives it to the shell on one file that is kept from round to round, and kills the
 process at some moment. The next round begins with `.rows`: these are the rows after all commits that were answered, or after one more, the commit that was
-being made. The last line is `kills: N passed, M failed`.
+being made. One round in five is killed at some moment of its start. If it has answered nothing by then, it shows nothing, and is not counted. The others are
+killed after their first answer, and some of them amid their commits: if there is no such round, the trial has failed. The last line is
+`kills: N passed, M failed`.
 """
 import argparse
+import os
 import pathlib
 import random
 import subprocess
@@ -19,6 +22,7 @@ TOP = pathlib.Path(__file__).resolve().parent.parent
 SHELL = TOP / "crates/tebaldi_shell/out/tebaldi_shell"
 COMMITS = 400  # of a round
 KEYS = 8
+SECONDS = 60  # for the first answer of a round
 
 
 def script(draw):
@@ -33,12 +37,15 @@ def script(draw):
     return "".join(f"{line}\n" for line in lines).encode(), puts
 
 
-def killed(program, file, data, after):
-    """What the shell wrote before it was killed after so many seconds."""
+def killed(program, file, data, waits, after):
+    """What the shell wrote before it was killed, after so many seconds; if it `waits`, they begin with the first answer."""
     with tempfile.TemporaryFile() as out:
         shell = subprocess.Popen([program, file], stdin=subprocess.PIPE, stdout=out)
         shell.stdin.write(data)
         shell.stdin.flush()
+        until = time.monotonic() + (SECONDS if waits else 0)
+        while time.monotonic() < until and os.fstat(out.fileno()).st_size == 0:
+            time.sleep(0.001)
         time.sleep(after)
         shell.kill()
         shell.wait()
@@ -52,35 +59,52 @@ def rows_in(text):
     return {int(key): int(value) for _, _, key, value in (line.split() for line in head.splitlines())} if end else None
 
 
+def play(program, file, draw, waits, may_be):
+    """Plays a round on a file whose rows may be these.
+
+    Returns the rows that it shows, how many of its commits were answered, and the rows that there may be after it. The rows are None if it was
+    killed before it had answered anything.
+    """
+    data, puts = script(draw)
+    text = killed(program, file, data, waits, draw.uniform(0.0, 0.2 if waits else 0.05))
+    rows = rows_in(text)
+    if rows is None:
+        return None, 0, may_be
+    shown, answered = rows, text.count(" committed\n")
+    for put in puts[:answered]:
+        rows = rows | put
+    return shown, answered, [rows] + [rows | put for put in puts[answered : answered + 1]]
+
+
 def main():
     options = argparse.ArgumentParser(description=__doc__, formatter_class=argparse.RawDescriptionHelpFormatter)
     options.add_argument("--program", type=pathlib.Path, default=SHELL)
     options.add_argument("--count", type=int, default=100)
     options.add_argument("--seed", type=int, default=1)
     given = options.parse_args()
-    draw, passed, failed, amid = random.Random(given.seed), 0, 0, 0
+    draw, passed, failed, amid, silent = random.Random(given.seed), 0, 0, 0, 0
     with tempfile.TemporaryDirectory() as room:
         may_be = [{}]
         for _ in range(given.count + 1):
-            data, puts = script(draw)
-            text = killed(given.program, f"{room}/store", data, draw.uniform(0.005, 0.2))
-            rows = rows_in(text)
-            if rows is None:
-                passed += 1  # it was killed before it had answered anything
-                continue
-            if rows in may_be:
-                passed += 1
-            else:
-                failed += 1
-                print(f"FAILED: the rows are {rows} in place of {' or '.join(map(str, may_be))}")
-            answered = text.count(" committed\n")
+            before, waits = may_be, draw.random() < 0.8
+            rows, answered, may_be = play(given.program, f"{room}/store", draw, waits, before)
+            passed += rows in before
             amid += 0 < answered < COMMITS
-            for put in puts[:answered]:
-                rows = rows | put
-            may_be = [rows] + [rows | put for put in puts[answered : answered + 1]]
-    print(f"kills: {amid} of {given.count + 1} came amid the commits")
+            if rows is None and waits:
+                failed += 1
+                print(f"FAILED: there was no answer within {SECONDS} seconds")
+                break
+            if rows is None:
+                silent += 1
+            elif rows not in before:
+                failed += 1
+                print(f"FAILED: the rows are {rows} in place of {' or '.join(map(str, before))}")
+    print(f"kills: {amid} of {given.count + 1} came amid the commits, {silent} before any answer")
+    if not amid:
+        failed += 1
+        print("FAILED: no round was killed amid its commits")
     print(f"kills: {passed} passed, {failed} failed")
-    return 1 if failed or not passed else 0
+    return 1 if failed else 0
 
 
 if __name__ == "__main__":

@@ -4,10 +4,10 @@
     tools/spoil.py [--program FILE] [--input FILE | --run FILE] [--from N] [--count N]
     tools/spoil.py --show N        writes the spoiled run of that number
 
-The printed run is that of the command `threads 1` on an input, or a file. The spoilings are numbered, and the same number always spoils the
-same run in the same way: a line is dropped, doubled, swapped with the next one, or one of its numbers is changed. The rules of docs/FORMATS.md,
-section Audit, are implemented here independently. If a spoiled run still keeps them, audit must answer yes. The last line is
-`spoil: N passed, M failed`.
+The printed run is that of the command `threads 1` on an input, or a file; it must keep the rules, and audit must accept it. The spoilings are
+numbered, and the same number always spoils the same run in the same way: a line is dropped, doubled, swapped with the next one, or one of its
+numbers is changed. The rules of docs/FORMATS.md, section Audit, are implemented here independently. If a spoiled run still keeps them, audit must
+answer yes. The last line is `spoil: N passed, M failed`.
 """
 import argparse
 import collections
@@ -213,6 +213,18 @@ def ran(program, words, text):
     return done.stdout.decode(errors="replace"), done.returncode
 
 
+def run_of(program, given):
+    """The printed run, and why it cannot be spoiled, or None: the program ends with status 0, and the run keeps the rules."""
+    if given.run:
+        text, status = given.run.read_text(), 0
+    else:
+        text, status = ran(program, ["threads", "1"], given.input.read_text())
+    fault = audit(text)
+    if status:
+        return text, f"threads 1 ended with status {status}"
+    return text, fault and f"line {fault[0]} of the run breaks a rule: {fault[1]}"
+
+
 def main():
     options = argparse.ArgumentParser(description=__doc__, formatter_class=argparse.RawDescriptionHelpFormatter)
     options.add_argument("--program", type=pathlib.Path, default=BUILT)
@@ -223,7 +235,10 @@ def main():
     options.add_argument("--show", type=int)
     given = options.parse_args()
     program = given.program.resolve()
-    text = given.run.read_text() if given.run else ran(program, ["threads", "1"], given.input.read_text())[0]
+    text, why = run_of(program, given)
+    if why:
+        print(f"FAILED: {why}\nspoil: 0 passed, 1 failed")
+        return 1
     if given.show is not None:
         sys.stdout.write(spoiled(text, given.show))
         return 0

@@ -140,7 +140,7 @@ def try_refusals(trials, folder):
 
 
 def try_shell_refusals(trials, folder):
-    """Refuses each allocation of a run of the shell in turn, an epoch with a checkpoint among it: what it answered is there, or one commit more whose answer found no memory, and once it has answered, it ends for want of memory alone."""
+    """Refuses each allocation of a run of the shell in turn, an epoch with a checkpoint among it: what it answered is there, or one commit more whose answer found no memory, and once it has answered, it ends early only if it is out of memory."""
     if not SHELL.exists():
         print("skipped: refusals in the shell (./check build builds it)")
         return
