@@ -19,4 +19,4 @@ events_of history = option_map (λ w. w.events) history
 pub record IsShowable (status : ℕ) : Type 0 where
   pub no_read_fault : status ≢ 3
   pub no_write_fault : status ≢ 4
-  pub no_want_of_memory : status ≢ 8
+  pub not_out_of_memory : status ≢ 8

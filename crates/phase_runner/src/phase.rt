@@ -80,12 +80,12 @@ fn switch<C: Chains>(
 {
     match phases.switch(alloc, setup, chains) {
         Ok(()) => Ok(()),
-        Err(why) => Err(want_of_memory(why)),
+        Err(why) => Err(out_of_memory(why)),
     }
 }
 
 /// Out of memory: the only remaining cause, if no condition forbids the switch.
-fn want_of_memory(why: SwitchError) -> AllocError
+fn out_of_memory(why: SwitchError) -> AllocError
     requires { why ≡ SwitchError.OutOfMemory }
 {
     match why {
