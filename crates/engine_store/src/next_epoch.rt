@@ -13,6 +13,7 @@ ghost use Rattle.tree_switch.specs.Starts.{IsStarted};
 ghost use Rattle.crash_disk.specs.Calls.{IsUpTo};
 ghost use Rattle.crash_disk.specs.Disk.{LeavesOnly};
 ghost use Rattle.record_journal.specs.Journal.{after_records};
+ghost use Rattle.epoch_journal.specs.Refusals.{IsReliable};
 ghost use Rattle.commit_laws.specs.Records.{records_of};
 ghost use Rattle.engine_store.specs.Lives.{Epoch, IsLife, epoch_of};
 ghost use Rattle.engine_store.specs.Next.{IsCause, IsRefusal, MayFollow, WritesFinalRows};
@@ -66,8 +67,9 @@ impl<C: Chains, D: Renew> EngineStore<C, D> {
         ensures fault { IfErr result (λ refused. refused.why ≡ errors.DiskFault
             → (refused.store.journal.stopped ≡ true) × Rose (D.faults self.journal.disk) (D.faults refused.store.journal.disk)) }
 
-        // No call of the disk is refused memory.
+        // No call of the disk is refused memory. So a disk that fails only if it is refused memory does not fail.
         ensures memory { MatchResult result (λ o. D.refusals o.0.journal.disk ≡ D.refusals self.journal.disk) (λ refused. D.refusals refused.store.journal.disk ≡ D.refusals self.journal.disk) }
+        ensures sure { IsReliable D.tells_failures D.tally D.refusals self.journal.disk → IfErr result (λ refused. refused.why ≡ errors.DiskFault → ⊥) }
 
         // At most four calls of the disk, which write the label, the rows, and the byte that makes their half current.
         ensures calls { IfOk result (λ o. IsUpToUntilRenewed D.seen D.faults D.tally 4 (11 + length self.journal.layout.label + 14 * length o.0.engine.store.rows)
@@ -129,6 +131,11 @@ impl<C: Chains, D: Disk> EngineStore<C, D> {
         ensures fault { IsErrOf result errors.DiskFault → self.new.journal.stopped ≡ true }
         ensures layout { self.new.journal.layout ≡ self.old.journal.layout }
 
+        // No call of the disk is refused memory. So a disk that fails only if it is refused memory does not fail.
+        ensures memory { D.refusals self.new.journal.disk ≡ D.refusals self.old.journal.disk }
+        ensures sure { IsReliable D.tells_failures D.tally D.refusals self.old.journal.disk → IsErrOf result errors.DiskFault → ⊥ }
+        ensures promise { (D.tally self.new.journal.disk).promise ≡ (D.tally self.old.journal.disk).promise }
+
         // A crash at any moment of the call leaves the first commits of the epoch that ends, and if the next one begins, the rows that it
         // begins with.
         ensures any_moment { LeavesOnly D.moment D.left_since self.old.journal.disk self.new.journal.disk
@@ -172,6 +179,8 @@ fn begin_next<C: Chains, D: Disk>(
     ensures fault { IsErrOf result errors.DiskFault → (store.new.journal.stopped ≡ true) × Rose (D.faults store.old.journal.disk) (D.faults store.new.journal.disk) }
     ensures layout { store.new.journal.layout ≡ store.old.journal.layout }
     ensures memory { D.refusals store.new.journal.disk ≡ D.refusals store.old.journal.disk }
+    ensures sure { IsReliable D.tells_failures D.tally D.refusals store.old.journal.disk → IsErrOf result errors.DiskFault → ⊥ }
+    ensures promise { (D.tally store.new.journal.disk).promise ≡ (D.tally store.old.journal.disk).promise }
     ensures calls { IfOk result (λ _. IsUpTo 4 (11 + length store.old.journal.layout.label + 14 * length store.new.engine.engine.store.rows)
         (D.tally store.old.journal.disk) (D.tally store.new.journal.disk)) }
     ensures calls_back { IsErrOf result errors.DiskFault

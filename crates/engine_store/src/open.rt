@@ -82,6 +82,9 @@ impl<C: Chains, D: Disk> EngineStore<C, D> {
             → ((k : ℕ) → HasRowOutside (length setup.names.tables) (after_records (take k all) first) → ⊥)
             → IfErr result (λ back. (back.why ≡ errors.DiskFault) ⊎ (back.why ≡ errors.OutOfMemory)) }
 
+        // It is opened only if no call of the disk was refused memory.
+        ensures granted { IfOk result (λ s. D.refusals s.journal.disk ≡ D.refusals disk) }
+
         // At most so many calls of the disk, which write no more than fits a half, and the front.
         ensures calls { IfOk result (λ s. IsUpTo (3 * half_size (D.capacity disk) + 28) (half_size (D.capacity disk) + 14) (D.tally disk) (D.tally s.journal.disk)) }
         ensures calls_back { IfErr result (λ back. IsUpTo (3 * half_size (D.capacity disk) + 28) (half_size (D.capacity disk) + 14) (D.tally disk) (D.tally back.disk)) }

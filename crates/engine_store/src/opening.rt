@@ -42,6 +42,7 @@ pub(crate) fn open_parts<C: Chains, D: Disk>(
     ensures opened { IfOk result (λ o. IsOpened D.seen D.may_leave D.moment D.left_since (layout_of (D.capacity disk) setup) (row_of setup.rows) disk o.0.store.rows o.1) }
     ensures refused { IfErr result (λ back. IsRefused D.seen D.may_leave D.moment D.left_since D.faults D.capacity
         (layout_of (D.capacity disk) setup) (row_of setup.rows) (length setup.names.tables) disk back.disk back.why) }
+    ensures granted { IfOk result (λ o. D.refusals o.1.disk ≡ D.refusals disk) }
     ensures calls { IfOk result (λ o. IsUpTo (3 * half_size (D.capacity disk) + 28) (half_size (D.capacity disk) + 14) (D.tally disk) (D.tally o.1.disk)) }
     ensures calls_back { IfErr result (λ back. IsUpTo (3 * half_size (D.capacity disk) + 28) (half_size (D.capacity disk) + 14) (D.tally disk) (D.tally back.disk)) }
 {
@@ -75,6 +76,7 @@ fn recover<D: Disk>(alloc: Global, disk: D, setup: &Setup) -> Result<RecoveredDi
     ensures inside { IfOk result (λ d. AreOfTables (length setup.now.names.tables) d.rows) }
     ensures refused { IfErr result (λ back. IsRefused D.seen D.may_leave D.moment D.left_since D.faults D.capacity
         (layout_of (D.capacity disk) setup.now) (row_of setup.now.rows) (length setup.now.names.tables) disk back.disk back.why) }
+    ensures granted { IfOk result (λ d. D.refusals d.disk ≡ D.refusals disk) }
     ensures calls { IfOk result (λ d. IsUpTo (3 * half_size (D.capacity disk) + 20) 0 (D.tally disk) (D.tally d.disk)) }
     ensures calls_back { IfErr result (λ back. IsUpTo (3 * half_size (D.capacity disk) + 20) 0 (D.tally disk) (D.tally back.disk)) }
 {

@@ -16,6 +16,7 @@ ghost use Rattle.commit_laws.specs.Commits.{commit_count};
 ghost use Rattle.commit_journal.specs.Kept.{IsFull};
 ghost use Rattle.commit_laws.specs.Laws.{IsOfSerialRun};
 ghost use Rattle.epoch_journal.specs.Layout.{half_size};
+ghost use Rattle.epoch_journal.specs.Refusals.{IsReliable};
 ghost use Rattle.epoch_store.specs.Told.{IsToldBy, acknowledged_after, events_after, told};
 ghost use Rattle.epoch_store.specs.declared.error.AskError.TheVariants as errors;
 ghost use Rattle.engine_store.specs.Label.{label_of};
@@ -95,8 +96,10 @@ impl<C: Chains, D: Disk> EngineStore<C, D> {
         ensures unsure { IsErrOf result errors.Unsure → ((answer self.old.engine.store self.old.engine.events session request).0 ≡ replies.Committed)
             × (self.new.journal.stopped ≡ true) × Rose (D.faults self.old.journal.disk) (D.faults self.new.journal.disk) }
 
-        // No call of the disk is refused memory.
+        // No call of the disk is refused memory. So a store on a disk that fails only if it is refused memory is never unsure.
         ensures memory { D.refusals self.new.journal.disk ≡ D.refusals self.old.journal.disk }
+        ensures sure { IsReliable D.tells_failures D.tally D.refusals self.old.journal.disk → IsErrOf result errors.Unsure → ⊥ }
+        ensures promise { (D.tally self.new.journal.disk).promise ≡ (D.tally self.old.journal.disk).promise }
 
         // Only a commit touches the disk.
         ensures untouched { IfOk result (λ reply. (reply ≡ replies.Committed → ⊥) → self.new.journal ≡ self.old.journal) }

@@ -57,7 +57,7 @@ begun_found {D} seen may_leave start all least k d e same found begun =
 
 pub begun_keeps : {D : Type 0} (seen : D → List ℕ) (may_leave : D → List ℕ → Type 0) (start : Values) (all : List Record) (least k : ℕ) (d : RecoveredState D)
     → (found : HasFound seen may_leave start all least k d)
-    → (j : JournalState D) → j.end < half_size j.layout.capacity → IsResting j.layout j.first (checkpoint_of d.rows ∷ []) j.end (seen j.disk) → Only (seen j.disk) (may_leave j.disk)
+    → (j : JournalState D) → j.end < half_size j.layout.capacity → IsResting j.layout j.half (checkpoint_of d.rows ∷ []) j.end (seen j.disk) → Only (seen j.disk) (may_leave j.disk)
     → Keeps seen may_leave start (take k all) k j
 begun_keeps seen may_leave start all least k d found j below resting durable =
     runs seen may_leave start (take k all) k j below (sym (length-take-le k all found.no_more)) (record {

@@ -1,18 +1,20 @@
 -- What a write leaves of the bytes outside its range.
-use Rattle.std.proofs.Common.{◌≡◌, inl, inr, ℕ, ◌+◌, ◌-◌, ◌<◌, ◌≤◌, Bool, true, false, eqb, List, [], ◌∷◌, ◌++◌, length, get_or, take, drop, sym, ◌∙◌, ap, arith, append_assoc, length-append, length-drop}
+use Rattle.std.proofs.Common.{◌≡◌, inl, inr, ℕ, ◌+◌, ◌-◌, ◌<◌, ◌≤◌, List, [], ◌∷◌, ◌++◌, length, get_or, take, drop, sym, ◌∙◌, ap, arith, append_assoc, length-append, length-drop}
 use Rattle.std.proofs.lemmas.List.{ext_get_or, get_or-take, get_or-drop, length-take, drop-drop, take_at}
 use Rattle.crash_disk.specs.Disk.{IsTorn, IsOutside, Holds}
 use Rattle.record_journal.specs.Format.{Record, records}
 use Rattle.record_journal.proofs.Torn.{two_parts, torn_back}
-use Rattle.epoch_journal.specs.Layout.{Layout, is_first, half_size, half_at, half, header}
+use Rattle.epoch_journal.specs.declared.current.Half.{Half}
+use Rattle.epoch_journal.specs.declared.current.Half.TheVariants.{First, Second}
+use Rattle.epoch_journal.specs.Layout.{Layout, selected_by, half_of, half_size, half_at, half, header}
 use Rattle.epoch_journal.specs.Halves.{IsFronted, IsHalf, IsResting}
 
-pub behind_front : (capacity : ℕ) (first : Bool) → 13 ≤ half_at capacity first
-behind_front capacity true = omega arith
-behind_front capacity false = omega arith
+pub behind_front : (capacity : ℕ) (h : Half) → 13 ≤ half_at capacity h
+behind_front capacity First = omega arith
+behind_front capacity Second = omega arith
 
-pub same_selector : (at n : ℕ) (f c : List ℕ) → IsTorn at n f c → 0 < at → 0 < length f → is_first c ≡ is_first f
-same_selector at n f c torn some long = ap (λ (v : ℕ). eqb v 1) (torn.stays 0 long (inl some))
+pub same_selector : (at n : ℕ) (f c : List ℕ) → IsTorn at n f c → 0 < at → 0 < length f → half_of c ≡ half_of f
+same_selector at n f c torn some long = ap selected_by (torn.stays 0 long (inl some))
 
 pub same_front : (m b at n : ℕ) (f c : List ℕ) → IsTorn at n f c → b + m ≤ length f → ((i : ℕ) → i < m → IsOutside at n (b + i)) → take m (drop b c) ≡ take m (drop b f)
 same_front m b at n f c torn long outside =
@@ -69,8 +71,8 @@ same_behind b f c torn some far = shorter (b - 1) (omega arith)
         ∙ drop-drop k 1 f
         ∙ ap (λ (n : ℕ). drop n f) (sym is)
 
-pub same_half : (l : Layout) (first : Bool) (f c : List ℕ) → IsTorn 0 1 f c → 0 < length f → half l first c ≡ half l first f
-same_half l first f c torn some = same_behind (half_at l.capacity first) f c torn some (omega (arith, behind_front l.capacity first))
+pub same_half : (l : Layout) (h : Half) (f c : List ℕ) → IsTorn 0 1 f c → 0 < length f → half l h c ≡ half l h f
+same_half l h f c torn some = same_behind (half_at l.capacity h) f c torn some (omega (arith, behind_front l.capacity h))
 
 pub length_half : (l : Layout) (rs : List Record) (x : List ℕ) → IsHalf l rs x → length (header l.label) + length (records rs) + 1 ≤ length x
 length_half l rs x h = omega (arith, ap length h.is, length-append (header l.label) (records rs ++ h.mark ∷ h.rest), length-append (records rs) (h.mark ∷ h.rest))
@@ -97,8 +99,8 @@ half_front l rs m x y h is same = record {
         ap (λ (t : List ℕ). take m t) (h.is ∙ sym (regroup h.rest))
         ∙ take_at (whole_of l rs h.mark) h.rest m (omega (arith, is, length-append (header l.label) (records rs ++ h.mark ∷ []), length-append (records rs) (h.mark ∷ [])))
 
-pub rests_half : (l : Layout) (first : Bool) (rs : List Record) (end : ℕ) (f : List ℕ) → IsResting l first rs end f → end < half_size l.capacity → IsHalf l rs (half l first f)
-rests_half l first rs end f resting below = record { fit = resting.fit; within = omega (arith, below, resting.size); mark = 0; ends = λ is. omega arith; rest = resting.rest; is = resting.is }
+pub rests_half : (l : Layout) (h : Half) (rs : List Record) (end : ℕ) (f : List ℕ) → IsResting l h rs end f → end < half_size l.capacity → IsHalf l rs (half l h f)
+rests_half l h rs end f resting below = record { fit = resting.fit; within = omega (arith, below, resting.size); mark = 0; ends = λ is. omega arith; rest = resting.rest; is = resting.is }
 
-pub far_half : (l : Layout) (first : Bool) (rs : List Record) (f : List ℕ) → IsHalf l rs (half l first f) → half_at l.capacity first + (length (header l.label) + length (records rs) + 1) ≤ length f
-far_half l first rs f h = omega (arith, length_half l rs (half l first f) h, length-drop (half_at l.capacity first) f)
+pub far_half : (l : Layout) (h : Half) (rs : List Record) (f : List ℕ) → IsHalf l rs (half l h f) → half_at l.capacity h + (length (header l.label) + length (records rs) + 1) ≤ length f
+far_half l h rs f has = omega (arith, length_half l rs (half l h f) has, length-drop (half_at l.capacity h) f)

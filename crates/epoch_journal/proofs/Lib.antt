@@ -1,5 +1,6 @@
 pub mod Sizes
 pub mod Moments
+pub mod Refusing
 pub mod Fronts
 pub mod Staging
 pub mod Bodies

@@ -1,5 +1,5 @@
 -- What is read from a disk that has records.
-use Rattle.std.proofs.Common.{◌≡◌, inl, inr, ⊎_elim, ◌⊎◌, ℕ, suc, ◌+◌, ◌-◌, ◌<◌, ◌≤◌, Bool, false, List, [], ◌∷◌, ◌++◌, length, take, drop, refl, sym, ◌∙◌, ap, subst, arith, length-drop}
+use Rattle.std.proofs.Common.{◌≡◌, inl, inr, ⊎_elim, ◌⊎◌, ℕ, suc, ◌+◌, ◌-◌, ◌<◌, ◌≤◌, List, [], ◌∷◌, ◌++◌, length, take, drop, refl, sym, ◌∙◌, ap, subst, arith, length-drop}
 use Rattle.std.specs.Int.{w64, to_be_bytes}
 use Rattle.std.proofs.lemmas.List.{append-nil, take_at, drop_at, take-take, drop-take, drop-drop, length-take}
 use Rattle.record_journal.specs.Format.{Record, Reading, Whole, Damaged, reading, records}
@@ -7,7 +7,9 @@ use Rattle.record_journal.proofs.Found.{records_in}
 use Rattle.record_journal.proofs.Spelled.{push_all, pushed, reading_records, reading_closed, take_past}
 use Rattle.epoch_journal.specs.declared.current.Current.{Current}
 use Rattle.epoch_journal.specs.declared.current.Current.TheVariants as current
-use Rattle.epoch_journal.specs.Layout.{Layout, signature, front, half_size, half_at, half, header, is_first}
+use Rattle.epoch_journal.specs.declared.current.Half.{Half}
+use Rattle.epoch_journal.specs.declared.current.Half.TheVariants.{Second}
+use Rattle.epoch_journal.specs.Layout.{Layout, signature, front, half_size, half_at, half, half_of, header}
 use Rattle.epoch_journal.specs.Halves.{HasRecords, IsAt, IsCurrent, IsEmpty, IsFronted, IsHalf}
 use Rattle.epoch_journal.specs.Read.{HasHeader, HasOtherCapacity, HasOtherLabel, IsCurrently, IsDamaged, IsReadAs, half_reading, records_at}
 use Rattle.epoch_journal.proofs.Sizes.{length-header}
@@ -32,7 +34,7 @@ has_capacity capacity file fronted = ap (take 8) (sym (drop-drop 4 1 file)) ∙ 
 -- ---- the current half
 
 module _ (l : Layout) (rs : List Record) (file : List ℕ) (now : IsCurrent l rs file) where
-  abbrev h : IsHalf l rs (half l (is_first file) file)
+  abbrev h : IsHalf l rs (half l (half_of file) file)
   h = now.has
 
   labelled : HasHeader l file
@@ -41,7 +43,7 @@ module _ (l : Layout) (rs : List Record) (file : List ℕ) (now : IsCurrent l rs
   behind_header : drop (records_at l file) file ≡ records rs ++ h.mark ∷ h.rest
   behind_header =
       ap (λ (n : ℕ). drop n file) (omega arith)
-      ∙ sym (drop-drop (length (header l.label)) (half_at l.capacity (is_first file)) file)
+      ∙ sym (drop-drop (length (header l.label)) (half_at l.capacity (half_of file)) file)
       ∙ ap (λ (t : List ℕ). drop (length (header l.label)) t) h.is
       ∙ drop_at (header l.label) (records rs ++ h.mark ∷ h.rest) (length (header l.label)) refl
 
@@ -57,29 +59,29 @@ module _ (l : Layout) (rs : List Record) (file : List ℕ) (now : IsCurrent l rs
       ∙ pushed rs []
       ∙ ap Whole (append-nil rs)
 
-  long : half_at l.capacity (is_first file) < length file
-  long = omega (arith, far_half l (is_first file) rs file h)
+  long : half_at l.capacity (half_of file) < length file
+  long = omega (arith, far_half l (half_of file) rs file h)
 
   not_empty : IsEmpty l file → ⊥
   not_empty empty =
-      let same : half_at l.capacity (is_first file) ≡ half_at l.capacity false = ap (λ (b : Bool). half_at l.capacity b) empty.second in
+      let same : half_at l.capacity (half_of file) ≡ half_at l.capacity Second = ap (λ (b : Half). half_at l.capacity b) empty.second in
       omega (arith, long, empty.short, same)
 
   past_front : 13 < length file
-  past_front = omega (arith, long, behind_front l.capacity (is_first file))
+  past_front = omega (arith, long, behind_front l.capacity (half_of file))
 
 -- a disk that ends before its current half has no header there
-no_header : (l : Layout) (file : List ℕ) → length file ≤ half_at l.capacity (is_first file) → HasHeader l file → ⊥
+no_header : (l : Layout) (file : List ℕ) → length file ≤ half_at l.capacity (half_of file) → HasHeader l file → ⊥
 no_header l file short has =
-    omega (arith, ap length has, length-take (length (header l.label)) (half l (is_first file) file), length-drop (half_at l.capacity (is_first file)) file, length-header l.label, short)
+    omega (arith, ap length has, length-take (length (header l.label)) (half l (half_of file) file), length-drop (half_at l.capacity (half_of file)) file, length-header l.label, short)
 
-short_of : (l : Layout) (file : List ℕ) → IsEmpty l file → length file ≤ half_at l.capacity (is_first file)
+short_of : (l : Layout) (file : List ℕ) → IsEmpty l file → length file ≤ half_at l.capacity (half_of file)
 short_of l file empty =
-    let same : half_at l.capacity (is_first file) ≡ half_at l.capacity false = ap (λ (b : Bool). half_at l.capacity b) empty.second in
+    let same : half_at l.capacity (half_of file) ≡ half_at l.capacity Second = ap (λ (b : Half). half_at l.capacity b) empty.second in
     omega (arith, empty.short, same)
 
-shorter : (l : Layout) (file : List ℕ) → length file ≤ 13 → length file ≤ half_at l.capacity (is_first file)
-shorter l file short = omega (arith, short, behind_front l.capacity (is_first file))
+shorter : (l : Layout) (file : List ℕ) → length file ≤ 13 → length file ≤ half_at l.capacity (half_of file)
+shorter l file short = omega (arith, short, behind_front l.capacity (half_of file))
 
 same_records : (rs qs : List Record) → Whole qs ≡ Whole rs → qs ≡ rs
 same_records rs qs same = ap (λ (x : Reading). records_in x qs) same
@@ -116,13 +118,13 @@ same_label l rs file (inr (none, inr short)) other = omega (arith, short, other.
 pub found_at : (l : Layout) (rs : List Record) (x : Current) (file : List ℕ) → IsCurrently l.capacity x file → HasRecords l rs file → IsAt l rs x file
 found_at l rs current.Blank file short (inl now) = absurd (omega (arith, short, past_front l rs file now))
 found_at l rs current.Blank file short (inr none) = (none.0, short)
-found_at l rs (current.Half first) file is has = record {
+found_at l rs (current.Half this) file is has = record {
   fronted = is.1;
   selects = is.2;
   has = of has;
 }
   where
-    of : HasRecords l rs file → IsHalf l rs (half l first file) ⊎ ((first ≡ false) × (rs ≡ []) × (length file ≤ half_at l.capacity false))
-    of (inl now) = inl (subst (λ (b : Bool). IsHalf l rs (half l b file)) is.2 now.has)
+    of : HasRecords l rs file → IsHalf l rs (half l this file) ⊎ ((this ≡ Second) × (rs ≡ []) × (length file ≤ half_at l.capacity Second))
+    of (inl now) = inl (subst (λ (b : Half). IsHalf l rs (half l b file)) is.2 now.has)
     of (inr (none, inl empty)) = inr (sym is.2 ∙ empty.second, none, empty.short)
     of (inr (none, inr short)) = absurd (omega (arith, short, is.0))

@@ -1,11 +1,12 @@
 -- A disk that ends before its halves is given its front.
-use Rattle.std.proofs.Common.{◌≡◌, inl, inr, ℕ, ◌≤◌, false, eqb, List, [], ◌∷◌, length, take, drop, refl, sym, ◌∙◌, ap, arith}
+use Rattle.std.proofs.Common.{◌≡◌, inl, inr, ℕ, ◌≤◌, List, [], ◌∷◌, length, take, drop, refl, sym, ◌∙◌, ap, arith}
 use Rattle.crash_disk.specs.Disk.{IsTorn, Holds}
 use Rattle.record_journal.specs.Format.{Record}
 use Rattle.record_journal.proofs.Torn.{holds_middle}
 use Rattle.epoch_journal.specs.declared.current.Current.{Current}
 use Rattle.epoch_journal.specs.declared.current.Current.TheVariants as current
-use Rattle.epoch_journal.specs.Layout.{Layout, front}
+use Rattle.epoch_journal.specs.declared.current.Half.TheVariants.{Second}
+use Rattle.epoch_journal.specs.Layout.{Layout, front, selected_by}
 use Rattle.epoch_journal.specs.Halves.{HasRecords, IsAt, IsSettled}
 use Rattle.epoch_journal.proofs.Sizes.{length-front}
 use Rattle.epoch_journal.proofs.Fronts.{behind_front}
@@ -13,7 +14,7 @@ use Rattle.epoch_journal.proofs.Switching.{settled_has}
 
 pub at_has : (l : Layout) (rs : List Record) (x : Current) (f : List ℕ) → IsAt l rs x f → HasRecords l rs f
 at_has l rs current.Blank f at = inr (at.0, inr at.1)
-at_has l rs (current.Half first) f at = settled_has l first rs f at
+at_has l rs (current.Half h) f at = settled_has l h rs f at
 
 module _ (l : Layout) (rs : List Record) (f : List ℕ) (none : rs ≡ []) (short : length f ≤ 13) where
   pub first_byte : (c : List ℕ) → IsTorn 0 1 f c → HasRecords l rs c
@@ -26,12 +27,12 @@ module _ (l : Layout) (rs : List Record) (f : List ℕ) (none : rs ≡ []) (shor
     pub front_bytes : (c : List ℕ) → IsTorn 1 (length bytes) mid c → HasRecords l rs c
     front_bytes c fronted = inr (none, inr (omega (arith, fronted.no_longer, torn.no_longer, twelve)))
 
-    pub fronted : (c : List ℕ) → Holds 0 (0 ∷ []) mid → IsTorn 1 (length bytes) mid c → Holds 1 bytes c → IsSettled l false rs c
-    fronted c zero turn holds = record {
+    pub fronted : (byte : ℕ) (c : List ℕ) → selected_by byte ≡ Second → Holds 0 (byte ∷ []) mid → IsTorn 1 (length bytes) mid c → Holds 1 bytes c → IsSettled l Second rs c
+    fronted byte c second selector turn holds = record {
       fronted = record {
         long = omega (arith, holds.within 11 (omega (arith, twelve)));
         is = ap (λ (n : ℕ). take n (drop 1 c)) (sym twelve) ∙ holds_middle 1 bytes c holds (omega (arith, twelve)) ∙ is;
       };
-      selects = ap (λ (n : ℕ). eqb n 1) (turn.stays 0 (omega (arith, zero.within 0 (omega arith))) (inl (omega arith)) ∙ zero.each 0 (omega arith));
-      has = inr (refl, none, omega (arith, turn.no_longer, torn.no_longer, twelve, behind_front l.capacity false));
+      selects = ap selected_by (turn.stays 0 (omega (arith, selector.within 0 (omega arith))) (inl (omega arith)) ∙ selector.each 0 (omega arith)) ∙ second;
+      has = inr (refl, none, omega (arith, turn.no_longer, torn.no_longer, twelve, behind_front l.capacity Second));
     }

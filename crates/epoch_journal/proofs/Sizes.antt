@@ -1,6 +1,8 @@
 -- The sizes of the parts of a disk.
-use Rattle.std.proofs.Common.{◌≡◌, ℕ, ◌+◌, ◌<◌, ◌≤◌, Bool, true, false, List, length, refl, arith, length-append}
+use Rattle.std.proofs.Common.{◌≡◌, ℕ, ◌+◌, ◌<◌, ◌≤◌, List, length, refl, arith, length-append}
 use Rattle.std.specs.Int.{w32, to_be_bytes}
+use Rattle.epoch_journal.specs.declared.current.Half.{Half}
+use Rattle.epoch_journal.specs.declared.current.Half.TheVariants.{First, Second}
 use Rattle.epoch_journal.specs.Layout.{front, half_size, half_at, header}
 
 pub length-front : (capacity : ℕ) → length (front capacity) ≡ 12
@@ -19,10 +21,10 @@ pub small_half : (capacity : ℕ) → half_size capacity < 4294967296
 unfolding half_size
 small_half capacity = omega arith
 
-pub both_fit : (capacity : ℕ) (first : Bool) (n : ℕ) → 0 < n → n ≤ half_size capacity → half_at capacity first + n ≤ capacity
-both_fit capacity true n some le = omega (arith, two_halves capacity (omega arith))
-both_fit capacity false n some le = omega (arith, two_halves capacity (omega arith))
+pub both_fit : (capacity : ℕ) (h : Half) (n : ℕ) → 0 < n → n ≤ half_size capacity → half_at capacity h + n ≤ capacity
+both_fit capacity First n some le = omega (arith, two_halves capacity (omega arith))
+both_fit capacity Second n some le = omega (arith, two_halves capacity (omega arith))
 
-pub half_some : (capacity : ℕ) (first : Bool) → 13 ≤ half_at capacity first
-half_some capacity true = omega arith
-half_some capacity false = omega arith
+pub half_some : (capacity : ℕ) (h : Half) → 13 ≤ half_at capacity h
+half_some capacity First = omega arith
+half_some capacity Second = omega arith

@@ -1,10 +1,12 @@
 -- What the bytes of a disk tell, in the order in which they are read.
-use Rattle.std.proofs.Common.{◌≡◌, inl, inr, ◌⊎◌, ℕ, ◌+◌, ◌-◌, ◌<◌, ◌≤◌, min, eqb, Bool, true, false, List, [], ◌++◌, length, take, drop, refl, sym, ◌∙◌, ap, subst, arith, length-drop, take-append-drop}
+use Rattle.std.proofs.Common.{◌≡◌, inl, inr, ◌⊎◌, ℕ, ◌+◌, ◌-◌, ◌<◌, ◌≤◌, min, List, [], ◌++◌, length, take, drop, refl, sym, ◌∙◌, ap, subst, arith, length-drop, take-append-drop}
 use Rattle.std.specs.Int.{w64, to_be_bytes}
 use Rattle.std.proofs.lemmas.Bool.{cases_lt}
 use Rattle.std.proofs.lemmas.List.{take-take, take_all, get_or-take, drop-take, drop-drop, length-take}
 use Rattle.record_journal.specs.Format.{Record, Whole, Damaged, reading}
-use Rattle.epoch_journal.specs.Layout.{Layout, signature, front, half_size, half_at, half, header, is_first}
+use Rattle.epoch_journal.specs.declared.current.Half.{Half}
+use Rattle.epoch_journal.specs.declared.current.Half.TheVariants.{First, Second}
+use Rattle.epoch_journal.specs.Layout.{Layout, signature, front, half_size, half_at, half, half_of, header, selected_by}
 use Rattle.epoch_journal.specs.Halves.{IsFronted}
 use Rattle.epoch_journal.specs.Read.{HasHeader, HasOtherCapacity, HasOtherLabel, IsDamaged, IsLabelled, IsReadAs, half_reading, records_at}
 
@@ -39,38 +41,38 @@ module _ (file bytes : List ℕ) (read : bytes ≡ take 13 (drop 0 file)) (long 
   pub fronted : (capacity : ℕ) → drop 1 bytes ≡ front capacity → IsFronted capacity file
   fronted capacity is = record { long = omega (arith, long); is = sym twelve ∙ is }
 
-  pub first_of : is_first bytes ≡ is_first file
-  first_of = ap is_first read ∙ ap (λ (n : ℕ). eqb n 1) (get_or-take 13 (drop 0 file) 0 0 (omega arith))
+  pub same_of : half_of bytes ≡ half_of file
+  same_of = ap half_of read ∙ ap selected_by (get_or-take 13 (drop 0 file) 0 0 (omega arith))
 
 -- ---- the current half
 
-pub inside : (capacity : ℕ) (first : Bool) (base len : ℕ) → base ≡ half_at capacity first → 13 < len → (first ≡ true) ⊎ (base < len) → base < len
-inside capacity first base len is long (inl is_true) =
-    let same : half_at capacity first ≡ 13 = ap (λ (b : Bool). half_at capacity b) is_true in
+pub inside : (capacity : ℕ) (h : Half) (base len : ℕ) → base ≡ half_at capacity h → 13 < len → (h ≡ First) ⊎ (base < len) → base < len
+inside capacity h base len is long (inl is_first) =
+    let same : half_at capacity h ≡ 13 = ap (λ (b : Half). half_at capacity b) is_first in
     omega (arith, is, same, long)
-inside capacity first base len is long (inr lt) = lt
+inside capacity h base len is long (inr lt) = lt
 
-module _ (l : Layout) (file : List ℕ) (first : Bool) (long : 13 < length file) (is_fronted : IsFronted l.capacity file) (selects : is_first file ≡ first) where
-  pub empty : first ≡ false → length file ≤ half_at l.capacity first → IsReadAs l [] file
+module _ (l : Layout) (file : List ℕ) (h : Half) (long : 13 < length file) (is_fronted : IsFronted l.capacity file) (selects : half_of file ≡ h) where
+  pub empty : h ≡ Second → length file ≤ half_at l.capacity h → IsReadAs l [] file
   empty second short = inr (
     refl,
     inl (record {
       fronted = is_fronted;
       second = selects ∙ second;
-      short = subst (λ (b : Bool). length file ≤ half_at l.capacity b) second short;
+      short = subst (λ (b : Half). length file ≤ half_at l.capacity b) second short;
     }),
   )
 
-  module _ (base most size n : ℕ) (found : List ℕ) (base_is : base ≡ half_at l.capacity first) (inside : base < length file) (most_is : most ≡ min (length file - base) (half_size l.capacity))
+  module _ (base most size n : ℕ) (found : List ℕ) (base_is : base ≡ half_at l.capacity h) (inside : base < length file) (most_is : most ≡ min (length file - base) (half_size l.capacity))
       (size_is : size ≡ length (header l.label)) (fits : size ≤ half_size l.capacity)
       (n_is : n ≡ min most size) (read : found ≡ take n (drop base file)) where
-    here : half l (is_first file) file ≡ drop base file
-    here = ap (λ (b : Bool). drop (half_at l.capacity b) file) selects ∙ ap (λ (k : ℕ). drop k file) (sym base_is)
+    here : half l (half_of file) file ≡ drop base file
+    here = ap (λ (b : Half). drop (half_at l.capacity b) file) selects ∙ ap (λ (k : ℕ). drop k file) (sym base_is)
 
     whole_header : HasHeader l file → found ≡ header l.label
     whole_header has =
         let size_of = ap length has in
-        let same : n ≡ size = omega (arith, n_is, most_is, size_is, fits, size_of, length-take (length (header l.label)) (half l (is_first file) file), ap length here, length-drop base file) in
+        let same : n ≡ size = omega (arith, n_is, most_is, size_is, fits, size_of, length-take (length (header l.label)) (half l (half_of file) file), ap length here, length-drop base file) in
         read ∙ ap (λ (k : ℕ). take k (drop base file)) (same ∙ size_is) ∙ ap (λ (t : List ℕ). take (length (header l.label)) t) (sym here) ∙ has
 
     pub other_label : (found ≡ header l.label → ⊥) → HasOtherLabel l file
@@ -78,7 +80,7 @@ module _ (l : Layout) (file : List ℕ) (first : Bool) (long : 13 < length file)
       long = long;
       fronted = is_fronted;
       some = λ empty.
-          let same : half_at l.capacity first ≡ half_at l.capacity false = ap (λ (b : Bool). half_at l.capacity b) (sym selects ∙ empty.second) in
+          let same : half_at l.capacity h ≡ half_at l.capacity Second = ap (λ (b : Half). half_at l.capacity b) (sym selects ∙ empty.second) in
           omega (arith, inside, base_is, empty.short, same);
       other = λ has. other (whole_header has);
     }
@@ -101,8 +103,8 @@ module _ (l : Layout) (file : List ℕ) (first : Bool) (long : 13 < length file)
 
       pub same_reading : (at until : ℕ) → at ≡ base + size → until ≡ base + most → reading 0 at (take (until - at) (drop at file)) ≡ half_reading l file
       same_reading at until at_is until_is =
-          let there : at ≡ records_at l file = at_is ∙ ap (λ (k : ℕ). k + size) (base_is ∙ sym (ap (λ (b : Bool). half_at l.capacity b) selects))
-          ∙ ap (λ (k : ℕ). half_at l.capacity (is_first file) + k) size_is in
+          let there : at ≡ records_at l file = at_is ∙ ap (λ (k : ℕ). k + size) (base_is ∙ sym (ap (λ (b : Half). half_at l.capacity b) selects))
+          ∙ ap (λ (k : ℕ). half_at l.capacity (half_of file) + k) size_is in
           ap (λ (t : List ℕ). reading 0 at t)
           (take_enough (until - at) (half_size l.capacity - length (header l.label)) (drop at file) (omega (arith, at_is, until_is, most_is, size_is, full, n_is, length-drop at file)))
           ∙ ap (λ (k : ℕ). reading 0 k (take (half_size l.capacity - length (header l.label)) (drop k file))) there

@@ -1,5 +1,5 @@
 -- What a disk tells of its records.
-use Rattle.std.proofs.Common.{◌≡◌, inl, ⊎_elim, ℕ, ◌+◌, ◌<◌, ◌≤◌, Bool, true, not, cond, List, [], ◌∷◌, ◌++◌, length, take, Option, Some, ℤ, Result, Ok, Err, refl, sym, ◌∙◌, ap, subst, arith, append_assoc, length-append}
+use Rattle.std.proofs.Common.{◌≡◌, inl, ⊎_elim, ℕ, ◌+◌, ◌<◌, ◌≤◌, true, cond, List, [], ◌∷◌, ◌++◌, length, take, Option, Some, ℤ, Result, Ok, Err, refl, sym, ◌∙◌, ap, subst, arith, append_assoc, length-append}
 use Rattle.std.specs.Prelude.{OnOk, OnErr, IfOk, IfErr}
 use Rattle.std.proofs.lemmas.List.{take_at, take_all, take-append-le, append-nil}
 use Rattle.teb_rules.specs.declared.names.Cell.{Cell}
@@ -10,7 +10,8 @@ use Rattle.record_journal.specs.declared.change.Change.{Change}
 use Rattle.record_journal.specs.Format.{Record, body}
 use Rattle.record_journal.specs.Journal.{after_changes, after_records}
 use Rattle.crash_disk.specs.Disk.{Only}
-use Rattle.epoch_journal.specs.Layout.{Layout, layout, half_size, header}
+use Rattle.epoch_journal.specs.declared.current.Half.{Half}
+use Rattle.epoch_journal.specs.Layout.{Layout, layout, other_half, half_size, header}
 use Rattle.epoch_journal.specs.Halves.{HasRecords, IsPiece, IsResting, IsOneOf, IsSettled, IsEither}
 use Rattle.epoch_journal.specs.State.{JournalState}
 use Rattle.epoch_journal.specs.Telling.{no_rows, table_of, checkpoint_of, IsBegun, StandsOn, TellsOn}
@@ -106,35 +107,35 @@ keeps_stopped seen may_leave start all more least old new stopped disk layout ke
   all_safe = λ runs. absurd (cc (stopped, runs));
 }
 
-pub one_of_tells : (l : Layout) (start : Values) (past asked all : List Record) (rows : List (Cell × ℤ)) (more : List Record) (least : ℕ) (first : Bool) (c : List ℕ)
+pub one_of_tells : (l : Layout) (start : Values) (past asked all : List Record) (rows : List (Cell × ℤ)) (more : List Record) (least : ℕ) (h : Half) (c : List ℕ)
     → ((x : Cell) → row_of rows x ≡ after_records past start x)
-    → all ≡ past ++ asked → least ≤ length all → IsOneOf l first (checkpoint_of rows ∷ asked) more c → TellsOn l start (all ++ more) least c
-one_of_tells l start past asked all rows more least first c checkpoint split few one = ⊎_elim
+    → all ≡ past ++ asked → least ≤ length all → IsOneOf l h (checkpoint_of rows ∷ asked) more c → TellsOn l start (all ++ more) least c
+one_of_tells l start past asked all rows more least h c checkpoint split few one = ⊎_elim
     (λ whole. tells_with l start (all ++ more) all least (length all) c (take_at all more (length all) refl) few (omega (arith, length-append all more))
-    (stands_with l start past asked all rows c checkpoint split (settled_has l first (checkpoint_of rows ∷ asked) c (record { fronted = one.fronted; selects = one.selects; has = inl whole }))))
+    (stands_with l start past asked all rows c checkpoint split (settled_has l h (checkpoint_of rows ∷ asked) c (record { fronted = one.fronted; selects = one.selects; has = inl whole }))))
     (λ whole. tells_with l start (all ++ more) (all ++ more) least (length (all ++ more)) c (take_all (length (all ++ more)) (all ++ more) (omega arith)) (omega (arith, few, length-append all more))
     (omega arith)
     (stands_with l start past (asked ++ more) (all ++ more) rows c checkpoint (ap (λ (t : List Record). t ++ more) split ∙ append_assoc past asked more)
-    (settled_has l first (checkpoint_of rows ∷ (asked ++ more)) c (record { fronted = one.fronted; selects = one.selects; has = inl whole }))))
+    (settled_has l h (checkpoint_of rows ∷ (asked ++ more)) c (record { fronted = one.fronted; selects = one.selects; has = inl whole }))))
     one.has
 
-pub either_tells : (l : Layout) (start : Values) (past asked all : List Record) (old new : List (Cell × ℤ)) (least : ℕ) (first : Bool) (c : List ℕ)
+pub either_tells : (l : Layout) (start : Values) (past asked all : List Record) (old new : List (Cell × ℤ)) (least : ℕ) (h : Half) (c : List ℕ)
     → ((x : Cell) → row_of old x ≡ after_records past start x) → all ≡ past ++ asked
-    → ((x : Cell) → row_of new x ≡ after_records all start x) → least ≤ length all → IsEither l first (checkpoint_of old ∷ asked) (checkpoint_of new) c → TellsOn l start all least c
-either_tells l start past asked all old new least first c checkpoint split now few either = ⊎_elim
+    → ((x : Cell) → row_of new x ≡ after_records all start x) → least ≤ length all → IsEither l h (checkpoint_of old ∷ asked) (checkpoint_of new) c → TellsOn l start all least c
+either_tells l start past asked all old new least h c checkpoint split now few either = ⊎_elim
     (λ was. tells_with l start all all least (length all) c (take_all (length all) all (omega arith)) few (omega arith)
-    (stands_with l start past asked all old c checkpoint split (settled_has l first (checkpoint_of old ∷ asked) c was)))
+    (stands_with l start past asked all old c checkpoint split (settled_has l h (checkpoint_of old ∷ asked) c was)))
     (λ is. tells_with l start all all least (length all) c (take_all (length all) all (omega arith)) few (omega arith)
-    (stands_with l start all [] all new c now (sym (append-nil all)) (settled_has l (not first) (checkpoint_of new ∷ []) c is)))
+    (stands_with l start all [] all new c now (sym (append-nil all)) (settled_has l (other_half h) (checkpoint_of new ∷ []) c is)))
     either
 
 module _ {D : Type 0} (seen : D → List ℕ) (may_leave : D → List ℕ → Type 0) (start : Values) where
   pub settled_of : (all : List Record) (j : JournalState D) → j.end < half_size j.layout.capacity → (running : IsRunning seen may_leave start all j)
-      → IsSettled j.layout j.first (checkpoint_of running.rows ∷ running.asked) (seen j.disk)
+      → IsSettled j.layout j.half (checkpoint_of running.rows ∷ running.asked) (seen j.disk)
   settled_of all j below running = record {
     fronted = running.resting.fronted;
     selects = running.resting.selects;
-    has = inl (rests_half j.layout j.first (checkpoint_of running.rows ∷ running.asked) j.end (seen j.disk) running.resting below);
+    has = inl (rests_half j.layout j.half (checkpoint_of running.rows ∷ running.asked) j.end (seen j.disk) running.resting below);
   }
 
   pub runs : (all : List Record) (least : ℕ) (j : JournalState D) → j.end < half_size j.layout.capacity → least ≡ length all → IsRunning seen may_leave start all j
@@ -144,14 +145,14 @@ module _ {D : Type 0} (seen : D → List ℕ) (may_leave : D → List ℕ → Ty
     each = λ c left. subst (TellsOn j.layout start all least) (sym (running.durable c left))
         (tells_with j.layout start all all least (length all) (seen j.disk) (take_all (length all) all (omega arith)) (omega (arith, is)) (omega arith)
         (stands_with j.layout start running.past running.asked all running.rows (seen j.disk) running.checkpoint running.split
-        (settled_has j.layout j.first (checkpoint_of running.rows ∷ running.asked) (seen j.disk) (settled_of all j below running))));
+        (settled_has j.layout j.half (checkpoint_of running.rows ∷ running.asked) (seen j.disk) (settled_of all j below running))));
     running = λ on. running;
     all_safe = λ on. is;
   }
 
 -- an epoch that has just begun
 pub begun : {D : Type 0} (seen : D → List ℕ) (may_leave : D → List ℕ → Type 0) (rows : List (Cell × ℤ)) (j : JournalState D) → j.end < half_size j.layout.capacity
-    → IsResting j.layout j.first (checkpoint_of rows ∷ []) j.end (seen j.disk) → Only (seen j.disk) (may_leave j.disk) → Keeps seen may_leave (row_of rows) [] 0 j
+    → IsResting j.layout j.half (checkpoint_of rows ∷ []) j.end (seen j.disk) → Only (seen j.disk) (may_leave j.disk) → Keeps seen may_leave (row_of rows) [] 0 j
 begun seen may_leave rows j below resting durable =
     runs seen may_leave (row_of rows) [] 0 j below refl (record { past = []; asked = []; rows = rows; split = refl; checkpoint = λ x. refl; resting = resting; durable = durable })
 

@@ -18,7 +18,7 @@ pub record IsRunning {D : Type 0} (seen : D → List ℕ) (may_leave : D → Lis
   pub rows : List (Cell × ℤ)
   pub split : all ≡ past ++ asked
   pub checkpoint : (x : Cell) → row_of rows x ≡ after_records past start x
-  pub resting : IsResting j.layout j.first (checkpoint_of rows ∷ asked) j.end (seen j.disk)
+  pub resting : IsResting j.layout j.half (checkpoint_of rows ∷ asked) j.end (seen j.disk)
   pub durable : Only (seen j.disk) (may_leave j.disk)
 
 -- All records were given to the journal in this order, in this epoch and in those before, over this starting table. A crash now leaves

@@ -1,6 +1,8 @@
 -- Where everything is on a disk.
-use Rattle.std.specs.Prelude.{ℕ, ◌+◌, ◌-◌, ◌/◌, min, Bool, true, false, eqb, List, [], ◌∷◌, ◌++◌, length, drop, slice_index}
+use Rattle.std.specs.Prelude.{ℕ, ◌+◌, ◌-◌, ◌/◌, min, cond, eqb, List, [], ◌∷◌, ◌++◌, length, drop, slice_index}
 use Rattle.std.specs.Int.{w32, w64, to_be_bytes}
+use Rattle.epoch_journal.specs.declared.current.Half.{Half}
+use Rattle.epoch_journal.specs.declared.current.Half.TheVariants.{First, Second}
 
 -- how many bytes the disk can hold, and the label that the store above gives
 pub record Layout : Type 0 where
@@ -10,9 +12,17 @@ pub record Layout : Type 0 where
 abbrev pub layout : ℕ → List ℕ → Layout
 layout capacity label = record { capacity = capacity; label = label }
 
--- Place 0 tells which half is current: 1 the first, any other byte the second. Without a byte it is the second.
-abbrev pub is_first : List ℕ → Bool
-is_first file = eqb (slice_index file 0) 1
+abbrev pub other_half : Half → Half
+other_half First = Second
+other_half Second = First
+
+-- the half that is current if this byte is at place 0: 1 selects the first, any other byte the second
+abbrev pub selected_by : ℕ → Half
+selected_by byte = cond (eqb byte 1) First Second
+
+-- the current half; without a byte it is the second
+abbrev pub half_of : List ℕ → Half
+half_of file = selected_by (slice_index file 0)
 
 -- "TEB1"
 abbrev pub signature : List ℕ
@@ -31,13 +41,13 @@ unfoldable pub half_size : ℕ → ℕ
 half_size capacity = min ((capacity - front_end) / 2) 4294967295
 
 -- where a half begins
-abbrev pub half_at : ℕ → Bool → ℕ
-half_at capacity true = front_end
-half_at capacity false = front_end + half_size capacity
+abbrev pub half_at : ℕ → Half → ℕ
+half_at capacity First = front_end
+half_at capacity Second = front_end + half_size capacity
 
 -- the bytes from the beginning of a half on
-abbrev pub half : Layout → Bool → List ℕ → List ℕ
-half l first file = drop (half_at l.capacity first) file
+abbrev pub half : Layout → Half → List ℕ → List ℕ
+half l h file = drop (half_at l.capacity h) file
 
 -- the first bytes of each half: the length of the label, and the label
 unfoldable pub header : List ℕ → List ℕ

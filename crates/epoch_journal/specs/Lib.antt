@@ -10,3 +10,4 @@ pub mod Read
 pub mod Errors
 pub mod Next
 pub mod Memory
+pub mod Refusals

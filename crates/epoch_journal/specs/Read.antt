@@ -2,14 +2,14 @@
 use Rattle.std.specs.Prelude.{◌≡◌, ◌≢◌, ◌⊎◌, ℕ, ◌+◌, ◌-◌, ◌<◌, ◌≤◌, List, [], length, take, drop}
 use Rattle.std.specs.Int.{w64, to_be_bytes}
 use Rattle.record_journal.specs.Format.{Record, Reading, Whole, Damaged, reading}
-use Rattle.epoch_journal.specs.Layout.{Layout, signature, front_end, half_size, half_at, half, header, is_first}
+use Rattle.epoch_journal.specs.Layout.{Layout, signature, front_end, half_size, half_at, half, header, half_of}
 use Rattle.epoch_journal.specs.declared.current.Current.{Current}
 use Rattle.epoch_journal.specs.declared.current.Current.TheVariants as current
 use Rattle.epoch_journal.specs.Halves.{IsFronted, IsEmpty}
 
 -- where the records of the current half begin
 abbrev pub records_at : Layout → List ℕ → ℕ
-records_at l file = half_at l.capacity (is_first file) + length (header l.label)
+records_at l file = half_at l.capacity (half_of file) + length (header l.label)
 
 -- what the current half stands for behind its header: records, or damage at a place of the disk
 abbrev pub half_reading : Layout → List ℕ → Reading
@@ -17,7 +17,7 @@ half_reading l file = reading 0 (records_at l file) (take (half_size l.capacity 
 
 -- the current half begins with the header of this label
 abbrev pub HasHeader : Layout → List ℕ → Type 0
-HasHeader l file = take (length (header l.label)) (half l (is_first file) file) ≡ header l.label
+HasHeader l file = take (length (header l.label)) (half l (half_of file) file) ≡ header l.label
 
 -- what can be read of the current half
 pub record IsLabelled (l : Layout) (file : List ℕ) : Type 0 where
@@ -49,9 +49,9 @@ pub record HasOtherLabel (l : Layout) (file : List ℕ) : Type 0 where
 -- the disk ends before its halves, or this half is current
 abbrev pub IsCurrently : ℕ → Current → List ℕ → Type 0
 IsCurrently capacity current.Blank file = length file ≤ front_end
-IsCurrently capacity (current.Half first) file = (front_end < length file) × IsFronted capacity file × (is_first file ≡ first)
+IsCurrently capacity (current.Half h) file = (front_end < length file) × IsFronted capacity file × (half_of file ≡ h)
 
 -- where the half begins that was read
 abbrev pub half_found_at : ℕ → Current → ℕ
 half_found_at capacity current.Blank = 0
-half_found_at capacity (current.Half first) = half_at capacity first
+half_found_at capacity (current.Half h) = half_at capacity h

@@ -1,6 +1,6 @@
 //! How a journal in epochs grows.
 
-ghost use Rattle.std.specs.Prelude.{◌≡◌, ◌+◌, ◌<◌, ◌≤◌, ◌^◌, ◌++◌, ◌∷◌, [], List, ℕ, length, true, false, IfOk, OnOk, OnErr};
+ghost use Rattle.std.specs.Prelude.{◌≡◌, ◌+◌, ◌<◌, ◌≤◌, ◌^◌, ◌++◌, ◌∷◌, [], List, ℕ, length, true, false, IfOk, OnOk, OnErr, IsOk};
 ghost use Rattle.teb_io.specs.Faults.{HasCause};
 ghost use Rattle.teb_rules.specs.Replay.{Values};
 ghost use Rattle.crash_disk.specs.Calls.{AreCalls};
@@ -13,6 +13,7 @@ ghost use Rattle.epoch_journal.specs.Layout.{half_size};
 ghost use Rattle.epoch_journal.specs.Telling.{TellsOn};
 ghost use Rattle.epoch_journal.specs.Kept.{Keeps};
 ghost use Rattle.epoch_journal.specs.Memory.{IsForRecord};
+ghost use Rattle.epoch_journal.specs.Refusals.{IsReliable};
 
 use crate::group::Group;
 use crate::journal::{EpochJournal, Place};
@@ -31,8 +32,8 @@ impl<D: Disk> EpochJournal<D> {
     pub fn reserve(&self, alloc: Global, len: usize) -> Result<Memory, AllocError>
         ensures { IfOk result (λ memory. IsForRecord D.spare_with len memory self.now) }
     {
-        let Place { first, end, .. } = self.place;
-        let mark = base(self.capacity, first) + end;
+        let Place { half, end, .. } = self.place;
+        let mark = base(self.capacity, half) + end;
         let end = (mark + 1).checked_add(len as u64).ok_or(AllocError)?;
         let bytes = len.checked_add(1).ok_or(AllocError)?;
         self.disk.reserve(alloc, 4, end, bytes)
@@ -59,12 +60,13 @@ impl<D: Disk> EpochJournal<D> {
             → LeavesOnly D.moment D.left_since self.old.disk self.new.disk (TellsOn self.old.layout start (all ++ r ∷ []) least) }
 
         ensures layout { self.new.layout ≡ self.old.layout }
-        ensures first { self.new.first ≡ self.old.first }
+        ensures half { self.new.half ≡ self.old.half }
         ensures acknowledged { OnOk result ((self.new.stopped ≡ false) × (self.new.acknowledged ≡ self.old.acknowledged + 1)) }
         ensures end { OnOk result (self.new.end ≡ self.old.end + length body.now) }
         ensures stopped { OnErr result ((self.new.stopped ≡ true) × (self.new.end ≡ self.old.end) × (self.new.acknowledged ≡ self.old.acknowledged)) }
-        // In memory that was reserved for it, it is refused none.
+        // In memory that was reserved for it, it is refused none. So a disk that fails only if it is refused memory does not fail.
         ensures memory { IsForRecord D.spare_with (length body.now) memory self.old → D.refusals self.new.disk ≡ D.refusals self.old.disk }
+        ensures sure { IsReliable D.tells_failures D.tally D.refusals self.old.disk → IsForRecord D.spare_with (length body.now) memory self.old → IsOk result }
         ensures cause { HasCause (D.faults self.old.disk) (D.faults self.new.disk) result }
         ensures calls { AreCalls (D.tally self.old.disk).promise.writes 4 (length body.now + 1) (D.tally self.old.disk) (D.tally self.new.disk) result }
     {
@@ -93,12 +95,13 @@ impl<D: Disk> EpochJournal<D> {
             → LeavesOnly D.moment D.left_since self.old.disk self.new.disk (TellsOn self.old.layout start (all ++ group.now.records) least) }
 
         ensures layout { self.new.layout ≡ self.old.layout }
-        ensures first { self.new.first ≡ self.old.first }
+        ensures half { self.new.half ≡ self.old.half }
         ensures acknowledged { OnOk result ((self.new.stopped ≡ false) × (self.new.acknowledged ≡ self.old.acknowledged + length group.now.records)) }
         ensures end { OnOk result (self.new.end ≡ self.old.end + group_size group.now) }
         ensures stopped { OnErr result ((self.new.stopped ≡ true) × (self.new.end ≡ self.old.end) × (self.new.acknowledged ≡ self.old.acknowledged)) }
-        // In memory that was reserved for it, it is refused none.
+        // In memory that was reserved for it, it is refused none. So a disk that fails only if it is refused memory does not fail.
         ensures memory { IsForRecord D.spare_with (group_size group.now) memory self.old → D.refusals self.new.disk ≡ D.refusals self.old.disk }
+        ensures sure { IsReliable D.tells_failures D.tally D.refusals self.old.disk → IsForRecord D.spare_with (group_size group.now) memory self.old → IsOk result }
         ensures cause { HasCause (D.faults self.old.disk) (D.faults self.new.disk) result }
         ensures calls { AreCalls (D.tally self.old.disk).promise.writes 4 (group_size group.now + 1) (D.tally self.old.disk) (D.tally self.new.disk) result }
     {
@@ -121,21 +124,22 @@ impl<D: Disk> EpochJournal<D> {
         ensures any_moment { (start : Values) (all : List Record) (least : ℕ) (more : List Record) → AreBodies more bodies.now → Keeps D.seen D.may_leave start all least self.old
             → LeavesOnly D.moment D.left_since self.old.disk self.new.disk (TellsOn self.old.layout start (all ++ more) least) }
         ensures layout { self.new.layout ≡ self.old.layout }
-        ensures first { self.new.first ≡ self.old.first }
+        ensures half { self.new.half ≡ self.old.half }
         ensures acknowledged { OnOk result ((self.new.stopped ≡ false) × (self.new.acknowledged ≡ self.old.acknowledged + count)) }
         ensures end { OnOk result (self.new.end ≡ self.old.end + length bodies.now) }
         ensures stopped { OnErr result ((self.new.stopped ≡ true) × (self.new.end ≡ self.old.end) × (self.new.acknowledged ≡ self.old.acknowledged)) }
         ensures memory { IsForRecord D.spare_with (length bodies.now) memory self.old → D.refusals self.new.disk ≡ D.refusals self.old.disk }
+        ensures sure { IsReliable D.tells_failures D.tally D.refusals self.old.disk → IsForRecord D.spare_with (length bodies.now) memory self.old → IsOk result }
         ensures cause { HasCause (D.faults self.old.disk) (D.faults self.new.disk) result }
         ensures calls { AreCalls (D.tally self.old.disk).promise.writes 4 (length bodies.now + 1) (D.tally self.old.disk) (D.tally self.new.disk) result }
     {
-        let Place { first, end, .. } = self.place;
+        let Place { half, end, .. } = self.place;
         self.disk.adopt(memory);
-        let added = add_records(&mut self.disk, self.capacity, first, end, bodies);
+        let added = add_records(&mut self.disk, self.capacity, half, end, bodies);
         match added {
             Ok(()) => {
                 self.place = Place {
-                    first,
+                    half,
                     end: end + bodies.len() as u64,
                     acknowledged: self.place.acknowledged + count,
                 };
@@ -167,7 +171,7 @@ impl<D: Disk> EpochJournal<D> {
         ensures stopped { self.new.stopped ≡ true }
         ensures disk { self.new.disk ≡ self.old.disk }
         ensures layout { self.new.layout ≡ self.old.layout }
-        ensures place { (self.new.first ≡ self.old.first) × (self.new.end ≡ self.old.end) }
+        ensures place { (self.new.half ≡ self.old.half) × (self.new.end ≡ self.old.end) }
         ensures acknowledged { self.new.acknowledged ≡ self.old.acknowledged }
     {
         self.stopped = true;

@@ -1,6 +1,6 @@
 //! How the first epoch after a reading begins.
 
-ghost use Rattle.std.specs.Prelude.{◌≡◌, ◌⊎◌, ◌+◌, ◌*◌, ◌-◌, ◌<◌, ◌≤◌, ◌^◌, ◌∷◌, [], List, ℕ, length, take, true, false, not, IfOk, OnOk, IfErr, IsErrOf};
+ghost use Rattle.std.specs.Prelude.{◌≡◌, ◌⊎◌, ◌+◌, ◌*◌, ◌-◌, ◌<◌, ◌≤◌, ◌^◌, ◌∷◌, [], List, ℕ, length, take, false, IfOk, OnOk, IfErr, IsErrOf};
 ghost use Rattle.teb_io.specs.Faults.{HasCause, Rose};
 ghost use Rattle.teb_rules.specs.names.Rows.{row_of};
 ghost use Rattle.teb_rules.specs.Replay.{Values};
@@ -14,7 +14,7 @@ ghost use Rattle.epoch_journal.specs.Kept.{HasFound, Keeps};
 ghost use Rattle.epoch_journal.specs.Read.{IsCurrently};
 ghost use Rattle.epoch_journal.specs.declared.error.OpenError.TheVariants as errors;
 
-use crate::current::Current;
+use crate::current::{Current, Half};
 use crate::error::OpenError;
 use crate::journal::{EpochJournal, Place};
 use crate::layout::front_of;
@@ -64,6 +64,9 @@ impl<D: Disk> RecoveredDisk<D> {
 
         ensures calls { IfOk result (λ o. IsUpTo 8 (24 + length self.layout.label + 14 * length self.rows) (D.tally self.disk) (D.tally o.0.disk)) }
         ensures calls_back { IfErr result (λ back. IsUpTo 8 (24 + length self.layout.label + 14 * length self.rows) (D.tally self.disk) (D.tally back.disk)) }
+        // A journal is begun only if no call was refused memory.
+        ensures granted { IfOk result (λ o. D.refusals o.0.disk ≡ D.refusals self.disk) }
+
         // However many rows there are, no more is written than fits a half, and the front.
         ensures within { IfOk result (λ o. IsUpTo 8 (half_size self.layout.capacity + 14) (D.tally self.disk) (D.tally o.0.disk)) }
         ensures within_back { IfErr result (λ back. IsUpTo 8 (half_size self.layout.capacity + 14) (D.tally self.disk) (D.tally back.disk)) }
@@ -103,9 +106,9 @@ fn begin_with<D: Disk>(
     requires small { capacity ≤ D.capacity disk.old }
     requires label { length label.now < 2 ^ 32 }
     ensures resting { IsCurrently capacity current (D.seen disk.old) → Only (D.seen disk.old) (D.may_leave disk.old)
-        → IfOk result (λ place. IsResting (layout capacity label.now) place.first (checkpoint_of rows.now ∷ []) place.end (D.seen disk.new)) }
+        → IfOk result (λ place. IsResting (layout capacity label.now) place.half (checkpoint_of rows.now ∷ []) place.end (D.seen disk.new)) }
     ensures begun { (rs : List Record) → IsAt (layout capacity label.now) rs current (D.seen disk.old) → Only (D.seen disk.old) (D.may_leave disk.old)
-        → IfOk result (λ place. IsResting (layout capacity label.now) place.first (checkpoint_of rows.now ∷ []) place.end (D.seen disk.new) × Only (D.seen disk.new) (D.may_leave disk.new)) }
+        → IfOk result (λ place. IsResting (layout capacity label.now) place.half (checkpoint_of rows.now ∷ []) place.end (D.seen disk.new) × Only (D.seen disk.new) (D.may_leave disk.new)) }
     ensures place { IfOk result (λ place. (place.end < half_size capacity) × (place.acknowledged ≡ 0)) }
     ensures any_moment { (rs : List Record) → IsAt (layout capacity label.now) rs current (D.seen disk.old) → Only (D.seen disk.old) (D.may_leave disk.old)
         → LeavesOnly D.moment D.left_since disk.old disk.new (HasOneOf (layout capacity label.now) rs (checkpoint_of rows.now ∷ [])) }
@@ -117,6 +120,7 @@ fn begin_with<D: Disk>(
     ensures cause { IsErrOf result errors.DiskFault → Rose (D.faults disk.old) (D.faults disk.new) }
     ensures calls { IsUpTo 8 (24 + length label.now + 14 * length rows.now) (D.tally disk.old) (D.tally disk.new) }
     ensures within { IsUpTo 8 (half_size capacity + 14) (D.tally disk.old) (D.tally disk.new) }
+    ensures granted { OnOk result (D.refusals disk.new ≡ D.refusals disk.old) }
 {
     let front = front_of(alloc, capacity)?;
     let piece = piece_of(alloc, capacity, label, rows)?;
@@ -138,10 +142,10 @@ fn replace<D: Disk>(
     requires room { length piece.now ≤ half_size capacity }
     ensures place { IfOk result (λ place. (place.end < half_size capacity) × (place.acknowledged ≡ 0)) }
     ensures resting { (label : List ℕ) (r : Record) → IsPiece (layout capacity label) r piece.now → IsCurrently capacity current (D.seen disk.old) → Only (D.seen disk.old) (D.may_leave disk.old)
-        → IfOk result (λ place. IsResting (layout capacity label) place.first (r ∷ []) place.end (D.seen disk.new)) }
+        → IfOk result (λ place. IsResting (layout capacity label) place.half (r ∷ []) place.end (D.seen disk.new)) }
     ensures switched { (label : List ℕ) (rs : List Record) (r : Record) → IsPiece (layout capacity label) r piece.now → IsAt (layout capacity label) rs current (D.seen disk.old)
         → Only (D.seen disk.old) (D.may_leave disk.old)
-        → IfOk result (λ place. IsResting (layout capacity label) place.first (r ∷ []) place.end (D.seen disk.new) × Only (D.seen disk.new) (D.may_leave disk.new)) }
+        → IfOk result (λ place. IsResting (layout capacity label) place.half (r ∷ []) place.end (D.seen disk.new) × Only (D.seen disk.new) (D.may_leave disk.new)) }
     ensures any_moment { (label : List ℕ) (rs : List Record) (r : Record) → IsPiece (layout capacity label) r piece.now → IsAt (layout capacity label) rs current (D.seen disk.old)
         → Only (D.seen disk.old) (D.may_leave disk.old)
         → LeavesOnly D.moment D.left_since disk.old disk.new (HasOneOf (layout capacity label) rs (r ∷ [])) }
@@ -150,39 +154,41 @@ fn replace<D: Disk>(
     ensures cause { HasCause (D.faults disk.old) (D.faults disk.new) result }
     ensures calls { IsUpTo 8 (14 + length piece.now) (D.tally disk.old) (D.tally disk.new) }
     ensures within { IsUpTo 8 (half_size capacity + 14) (D.tally disk.old) (D.tally disk.new) }
+    ensures granted { OnOk result (D.refusals disk.new ≡ D.refusals disk.old) }
 {
-    let first = settle(disk, capacity, current, front_bytes)?;
-    switch_halves(disk, capacity, first, piece)?;
+    let half = settle(disk, capacity, current, front_bytes)?;
+    switch_halves(disk, capacity, half, piece)?;
     Ok(Place {
-        first: !first,
+        half: half.other(),
         end: piece.len() as u64 - 1,
         acknowledged: 0,
     })
 }
 
-/// Returns true if the first half is current. A disk that ends before its halves gets its front, and the second half is current, which is empty.
+/// Returns the current half. A disk that ends before its halves gets its front, and the second half is current, which is empty.
 fn settle<D: Disk>(
     disk: &mut D,
     capacity: u64,
     current: Current,
     front_bytes: &[u8],
-) -> Result<bool, Failed>
+) -> Result<Half, Failed>
     requires small { (13 ≤ capacity) × (capacity ≤ D.capacity disk.old) }
     requires front { front_bytes.now ≡ front capacity }
     ensures fronted { IsCurrently capacity current (D.seen disk.old) → Only (D.seen disk.old) (D.may_leave disk.old) → OnOk result (IsFronted capacity (D.seen disk.new)) }
     ensures settled { (label : List ℕ) (rs : List Record) → IsAt (layout capacity label) rs current (D.seen disk.old) → Only (D.seen disk.old) (D.may_leave disk.old)
-        → IfOk result (λ first. IsSettled (layout capacity label) first rs (D.seen disk.new) × Only (D.seen disk.new) (D.may_leave disk.new)) }
+        → IfOk result (λ half. IsSettled (layout capacity label) half rs (D.seen disk.new) × Only (D.seen disk.new) (D.may_leave disk.new)) }
     ensures any_moment { (label : List ℕ) (rs : List Record) → IsAt (layout capacity label) rs current (D.seen disk.old) → Only (D.seen disk.old) (D.may_leave disk.old)
         → LeavesOnly D.moment D.left_since disk.old disk.new (HasRecords (layout capacity label) rs) }
     ensures stays { D.capacity disk.new ≡ D.capacity disk.old }
     ensures cause { HasCause (D.faults disk.old) (D.faults disk.new) result }
     ensures calls { IsUpTo 4 13 (D.tally disk.old) (D.tally disk.new) }
+    ensures granted { OnOk result (D.refusals disk.new ≡ D.refusals disk.old) }
 {
     match current {
-        Current::Half { first } => Ok(first),
+        Current::Half(half) => Ok(half),
         Current::Blank => {
             write_front(disk, capacity, front_bytes)?;
-            Ok(false)
+            Ok(Half::Second)
         }
     }
 }
@@ -192,14 +198,15 @@ fn write_front<D: Disk>(disk: &mut D, capacity: u64, front_bytes: &[u8]) -> Resu
     requires small { (13 ≤ capacity) × (capacity ≤ D.capacity disk.old) }
     requires front { front_bytes.now ≡ front capacity }
     ensures settled { (label : List ℕ) → length (D.seen disk.old) ≤ 13 → Only (D.seen disk.old) (D.may_leave disk.old)
-        → OnOk result (IsSettled (layout capacity label) false [] (D.seen disk.new) × Only (D.seen disk.new) (D.may_leave disk.new)) }
+        → OnOk result (IsSettled (layout capacity label) Half.Second [] (D.seen disk.new) × Only (D.seen disk.new) (D.may_leave disk.new)) }
     ensures any_moment { (label : List ℕ) → length (D.seen disk.old) ≤ 13 → Only (D.seen disk.old) (D.may_leave disk.old)
         → LeavesOnly D.moment D.left_since disk.old disk.new (HasRecords (layout capacity label) []) }
     ensures stays { D.capacity disk.new ≡ D.capacity disk.old }
     ensures cause { HasCause (D.faults disk.old) (D.faults disk.new) result }
     ensures calls { IsUpTo 4 13 (D.tally disk.old) (D.tally disk.new) }
+    ensures granted { OnOk result (D.refusals disk.new ≡ D.refusals disk.old) }
 {
-    write_safely(disk, 0, &[0])?;
+    write_safely(disk, 0, &[Half::Second.selector()])?;
     write_safely(disk, 1, front_bytes)?;
     Ok(())
 }

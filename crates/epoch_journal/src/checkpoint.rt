@@ -1,6 +1,6 @@
 //! How the next epoch begins.
 
-ghost use Rattle.std.specs.Prelude.{◌≡◌, ◌+◌, ◌*◌, ◌<◌, ◌≤◌, [], List, ℕ, length, true, false, not, IfOk, OnOk, OnErr, IfErr, IsErrOf};
+ghost use Rattle.std.specs.Prelude.{◌≡◌, ◌+◌, ◌*◌, ◌<◌, ◌≤◌, [], List, ℕ, length, true, false, IfOk, OnOk, OnErr, IfErr, IsErrOf};
 ghost use Rattle.teb_io.specs.Faults.{Rose};
 ghost use Rattle.teb_rules.specs.declared.names.Cell.{Cell as TheCell};
 ghost use Rattle.teb_rules.specs.names.Rows.{row_of};
@@ -10,11 +10,13 @@ ghost use Rattle.crash_disk.specs.Disk.{LeavesOnly};
 ghost use Rattle.crash_disk.specs.Spare.{Covers};
 ghost use Rattle.record_journal.specs.Format.{Record};
 ghost use Rattle.record_journal.specs.Journal.{after_records};
-ghost use Rattle.epoch_journal.specs.Layout.{half_at, half_size};
+ghost use Rattle.epoch_journal.specs.Layout.{half_at, half_size, other_half};
 ghost use Rattle.epoch_journal.specs.Telling.{TellsOn};
 ghost use Rattle.epoch_journal.specs.Kept.{Keeps};
+ghost use Rattle.epoch_journal.specs.Refusals.{IsReliable};
 ghost use Rattle.epoch_journal.specs.declared.error.CheckpointError.TheVariants as errors;
 
+use crate::current::Half;
 use crate::error::CheckpointError;
 use crate::journal::{EpochJournal, Place};
 use crate::layout::base;
@@ -48,14 +50,15 @@ impl<D: Disk> EpochJournal<D> {
             → LeavesOnly D.moment D.left_since self.old.disk self.new.disk (TellsOn self.old.layout start all least) }
 
         ensures layout { self.new.layout ≡ self.old.layout }
-        ensures begun { OnOk result ((self.new.stopped ≡ false) × (self.new.first ≡ not self.old.first) × (self.new.end ≡ 9 + length self.old.layout.label + 14 * length rows.now)
+        ensures begun { OnOk result ((self.new.stopped ≡ false) × (self.new.half ≡ other_half self.old.half) × (self.new.end ≡ 9 + length self.old.layout.label + 14 * length rows.now)
             × (self.new.acknowledged ≡ 0)) }
         ensures fits { OnOk result (10 + length self.old.layout.label + 14 * length rows.now ≤ half_size self.old.layout.capacity) }
         ensures full { IsErrOf result errors.Full → half_size self.old.layout.capacity < 10 + length self.old.layout.label + 14 * length rows.now }
         ensures unchanged { IfErr result (λ e. (e ≡ errors.DiskFault → ⊥) → self.new ≡ self.old) }
-        // No call of the disk is refused memory.
+        // No call of the disk is refused memory. So a disk that fails only if it is refused memory does not fail.
         ensures memory { D.refusals self.new.disk ≡ D.refusals self.old.disk }
-        ensures place { OnErr result ((self.new.first ≡ self.old.first) × (self.new.end ≡ self.old.end) × (self.new.acknowledged ≡ self.old.acknowledged)) }
+        ensures sure { IsReliable D.tells_failures D.tally D.refusals self.old.disk → IsErrOf result errors.DiskFault → ⊥ }
+        ensures place { OnErr result ((self.new.half ≡ self.old.half) × (self.new.end ≡ self.old.end) × (self.new.acknowledged ≡ self.old.acknowledged)) }
         ensures fault { IsErrOf result errors.DiskFault → (self.new.stopped ≡ true) × Rose (D.faults self.old.disk) (D.faults self.new.disk) }
         ensures calls { IsUpTo 4 (11 + length self.old.layout.label + 14 * length rows.now) (D.tally self.old.disk) (D.tally self.new.disk) }
     {
@@ -63,15 +66,15 @@ impl<D: Disk> EpochJournal<D> {
             Ok(piece) => piece,
             Err(error) => return Err(error),
         };
-        let Place { first, .. } = self.place;
-        let Ok(memory) = reserve_half(alloc, &self.disk, self.capacity, first, piece.len()) else {
+        let Place { half, .. } = self.place;
+        let Ok(memory) = reserve_half(alloc, &self.disk, self.capacity, half, piece.len()) else {
             return Err(CheckpointError::OutOfMemory);
         };
         self.disk.adopt(memory);
-        match switch_halves(&mut self.disk, self.capacity, first, &piece) {
+        match switch_halves(&mut self.disk, self.capacity, half, &piece) {
             Ok(()) => {
                 self.place = Place {
-                    first: !first,
+                    half: half.other(),
                     end: piece.len() as u64 - 1,
                     acknowledged: 0,
                 };
@@ -85,7 +88,7 @@ impl<D: Disk> EpochJournal<D> {
     }
 }
 
-/// Returns memory for `len` bytes of the half that is not current, and for the byte that makes it current.
+/// Returns memory for `len` bytes of the half that is not current, the other one than `half`, and for the byte that makes it current.
 ///
 /// # Errors
 /// `AllocError`: out of memory.
@@ -93,12 +96,12 @@ fn reserve_half<D: Disk>(
     alloc: Global,
     disk: &D,
     capacity: u64,
-    first: bool,
+    half: Half,
     len: usize,
 ) -> Result<Memory, AllocError>
     requires room { len ≤ half_size capacity }
-    ensures { IfOk result (λ memory. Covers (D.spare_with disk.now memory) 4 (len + 1) (half_at capacity (not first) + len)) }
+    ensures { IfOk result (λ memory. Covers (D.spare_with disk.now memory) 4 (len + 1) (half_at capacity (other_half half) + len)) }
 {
-    let end = base(capacity, !first) + len as u64;
+    let end = base(capacity, half.other()) + len as u64;
     disk.reserve(alloc, 4, end, len + 1)
 }

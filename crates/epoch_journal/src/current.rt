@@ -1,10 +1,17 @@
 //! Which half of a disk is current.
 
+/// A half of a disk.
+#[derive(Clone, Copy, Debug, PartialEq, Eq)]
+pub enum Half {
+    First,
+    Second,
+}
+
 /// Which half of a disk is current.
 #[derive(Clone, Copy, Debug, PartialEq, Eq)]
 pub enum Current {
-    /// The disk ends before its halves.
+    /// None: the disk ends before its halves.
     Blank,
-    /// The first half, or the second one.
-    Half { first: bool },
+    /// This one.
+    Half(Half),
 }

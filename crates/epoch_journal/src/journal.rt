@@ -2,6 +2,7 @@
 
 ghost use Rattle.std.specs.Prelude.{◌≡◌, ◌<◌, ◌≤◌};
 
+use crate::current::Half;
 use crash_disk::Disk;
 use std::marker::Model;
 
@@ -19,8 +20,8 @@ pub struct EpochJournal<D: Disk> {
 /// How far an epoch has come.
 #[derive(Clone, Copy, Debug, PartialEq, Eq)]
 pub(crate) struct Place {
-    /// Whether the first half is current.
-    pub first: bool,
+    /// The current half.
+    pub half: Half,
     /// The place of the end mark in that half.
     pub end: u64,
     /// How many records of this epoch are acknowledged.
@@ -38,7 +39,7 @@ impl<D: Disk> Model for EpochJournal<D> {
     ghost view = { λ j. record {
       disk = j.disk;
       layout = layout j.capacity j.label.items;
-      first = j.place.first;
+      half = j.place.half;
       end = j.place.end;
       acknowledged = j.place.acknowledged;
       stopped = j.stopped;

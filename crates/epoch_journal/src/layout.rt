@@ -1,8 +1,9 @@
 //! Where everything is on a disk.
 
 ghost use Rattle.std.specs.Prelude.{◌≡◌, ◌+◌, ◌*◌, ◌<◌, ◌≤◌, ◌^◌, length, IfOk};
-ghost use Rattle.epoch_journal.specs.Layout.{front, half_at, half_size, header};
+ghost use Rattle.epoch_journal.specs.Layout.{front, half_at, half_size, header, other_half, selected_by};
 
+use crate::current::Half;
 use std::alloc::{AllocError, Global};
 
 /// The byte before a record.
@@ -20,6 +21,35 @@ const MOST_HALF: u64 = 4_294_967_295;
 /// The number of bytes of a label's length.
 pub(crate) const LENGTH_BYTES: usize = 4;
 
+impl Half {
+    /// Returns the other half.
+    pub(crate) fn other(self) -> Half
+        ensures { result ≡ other_half self }
+    {
+        match self {
+            Half::First => Half::Second,
+            Half::Second => Half::First,
+        }
+    }
+
+    /// Returns the half that is current if the byte at place 0 is this one.
+    pub(crate) fn of_selector(byte: u8) -> Half
+        ensures { result ≡ selected_by byte }
+    {
+        if byte == 1 { Half::First } else { Half::Second }
+    }
+
+    /// Returns a byte that makes this half current at place 0.
+    pub(crate) fn selector(self) -> u8
+        ensures { selected_by result ≡ self }
+    {
+        match self {
+            Half::First => 1,
+            Half::Second => 0,
+        }
+    }
+}
+
 /// Returns how many bytes each half of a disk has.
 #[tactic(auto, unfolding(crate::specs::Layout::half_size))]
 pub(crate) fn half_bytes(capacity: u64) -> u64
@@ -31,14 +61,13 @@ pub(crate) fn half_bytes(capacity: u64) -> u64
 }
 
 /// Returns the place at which a half begins.
-pub(crate) fn base(capacity: u64, first: bool) -> u64
-    ensures value { result ≡ half_at capacity first }
+pub(crate) fn base(capacity: u64, half: Half) -> u64
+    ensures value { result ≡ half_at capacity half }
     ensures small { result < 2 ^ 33 }
 {
-    if first {
-        FRONT_END
-    } else {
-        FRONT_END + half_bytes(capacity)
+    match half {
+        Half::First => FRONT_END,
+        Half::Second => FRONT_END + half_bytes(capacity),
     }
 }
 

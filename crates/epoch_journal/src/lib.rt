@@ -73,7 +73,7 @@ mod safely;
 mod steps;
 mod table;
 
-pub use current::Current;
+pub use current::{Current, Half};
 pub use error::{CheckpointError, OpenError};
 pub use group::Group;
 pub use journal::EpochJournal;

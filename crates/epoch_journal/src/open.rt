@@ -75,6 +75,9 @@ impl<D: Disk> EpochJournal<D> {
         ensures cause { IfErr result (λ back. back.why ≡ errors.DiskFault → Rose (D.faults disk) (D.faults back.disk)) }
         ensures unwritten { IfErr result (λ back. (back.why ≡ errors.DiskFault → ⊥) → IsQuiet D.seen D.may_leave D.moment D.left_since D.faults D.capacity disk back.disk) }
 
+        // It is opened only if no call was refused memory.
+        ensures granted { IfOk result (λ o. D.refusals o.0.disk ≡ D.refusals disk) }
+
         // At most so many calls, which write no more than fits a half, and the front.
         ensures calls { IfOk result (λ o. IsUpTo (3 * half_size (D.capacity disk) + 28) (half_size (D.capacity disk) + 14) (D.tally disk) (D.tally o.0.disk)) }
         ensures calls_back { IfErr result (λ back. IsUpTo (3 * half_size (D.capacity disk) + 28) (half_size (D.capacity disk) + 14) (D.tally disk) (D.tally back.disk)) }

@@ -27,6 +27,7 @@ pub(crate) fn read_range<D: Disk>(
     ensures cause { IsErrOf result RecoverError.DiskFault → Rose (D.faults disk.old) (D.faults disk.new) }
     ensures calls { IsUpTo count 0 (D.tally disk.old) (D.tally disk.new) }
     ensures not_damaged { (place : ℕ) → IsErrOf result (RecoverError.Damaged place) → ⊥ }
+    ensures granted { OnOk result (D.refusals disk.new ≡ D.refusals disk.old) }
 {
     let mut bytes = vec![in alloc; 0u8; count as usize]?;
     fill(disk, at, &mut bytes)?;
@@ -41,6 +42,7 @@ fn fill<D: Disk>(disk: &mut D, at: u64, buf: &mut [u8]) -> Result<(), Failed>
     ensures quiet { IsQuiet D.seen D.may_leave D.moment D.left_since D.faults D.capacity disk.old disk.new }
     ensures cause { HasCause (D.faults disk.old) (D.faults disk.new) result }
     ensures calls { IsUpTo (length buf.old) 0 (D.tally disk.old) (D.tally disk.new) }
+    ensures granted { OnOk result (D.refusals disk.new ≡ D.refusals disk.old) }
 {
     let mut filled = 0;
     while filled < buf.len() {

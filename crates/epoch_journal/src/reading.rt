@@ -1,19 +1,19 @@
 //! What a disk has: its front, and the records of its current half.
 
-ghost use Rattle.std.specs.Prelude.{◌≡◌, ◌⊎◌, ◌+◌, ◌*◌, ◌<◌, ◌≤◌, ◌^◌, [], List, ℕ, min, length, take, drop, true, false, IfOk, IfErr, IsErrOf};
+ghost use Rattle.std.specs.Prelude.{◌≡◌, ◌⊎◌, ◌+◌, ◌*◌, ◌<◌, ◌≤◌, ◌^◌, [], List, ℕ, min, length, take, drop, true, false, IfOk, IfErr, IsErrOf, OnOk};
 ghost use Rattle.crash_disk.specs.Calls.{IsUpTo};
 ghost use Rattle.crash_disk.specs.Disk.{IsQuiet};
 ghost use Rattle.teb_io.specs.Faults.{Rose};
 ghost use Rattle.record_journal.specs.Views.{record_lists};
 ghost use Rattle.std.specs.Int.{w64, to_be_bytes};
-ghost use Rattle.epoch_journal.specs.Layout.{front as front_bytes, half_size, header, is_first, layout, signature};
+ghost use Rattle.epoch_journal.specs.Layout.{front as front_bytes, half_of, half_size, header, layout, signature};
 ghost use Rattle.epoch_journal.specs.Halves.{IsFronted};
 ghost use Rattle.epoch_journal.specs.Read.{HasOtherCapacity, HasOtherLabel, IsCurrently, IsDamaged, IsReadAs};
 ghost use Rattle.epoch_journal.specs.declared.error.OpenError.TheVariants as errors;
 
-use crate::current::Current;
+use crate::current::{Current, Half};
 use crate::error::OpenError;
-use crate::layout::{COMMIT_MARK, FRONT_END, SIGNATURE, base, half_bytes, header_of};
+use crate::layout::{FRONT_END, SIGNATURE, base, half_bytes, header_of};
 use crate::range::read_range;
 use crate::records::read_on;
 use crash_disk::Disk;
@@ -39,25 +39,26 @@ pub(crate) fn read_front<D: Disk>(
     ensures quiet { IsQuiet D.seen D.may_leave D.moment D.left_since D.faults D.capacity disk.old disk.new }
     ensures cause { IsErrOf result errors.DiskFault → Rose (D.faults disk.old) (D.faults disk.new) }
     ensures calls { IsUpTo 13 0 (D.tally disk.old) (D.tally disk.new) }
+    ensures granted { OnOk result (D.refusals disk.new ≡ D.refusals disk.old) }
 {
     if len <= FRONT_END {
         return Ok(Current::Blank);
     }
     let front = read_range(alloc, disk, 0, FRONT_END)?;
-    let first = match check_front(&front, capacity) {
-        Ok(first) => first,
+    let half = match check_front(&front, capacity) {
+        Ok(half) => half,
         Err(error) => return Err(error),
     };
-    Ok(Current::Half { first })
+    Ok(Current::Half(half))
 }
 
-/// Returns true if the first half is current, by the first 13 bytes of a disk.
+/// Returns the current half, by the first 13 bytes of a disk.
 ///
 /// # Errors
 /// `Damaged` at 1 if there is no signature; `OtherCapacity`.
-fn check_front(front: &[u8], capacity: u64) -> Result<bool, OpenError>
+fn check_front(front: &[u8], capacity: u64) -> Result<Half, OpenError>
     requires { length front.now ≡ 13 }
-    ensures current { IfOk result (λ first. (drop 1 front.now ≡ front_bytes capacity) × (is_first front.now ≡ first)) }
+    ensures current { IfOk result (λ half. (drop 1 front.now ≡ front_bytes capacity) × (half_of front.now ≡ half)) }
     ensures errors { IfErr result (λ e. ((e ≡ errors.Damaged 1) × (take 4 (drop 1 front.now) ≡ signature → ⊥))
         ⊎ ((e ≡ errors.OtherCapacity) × (take 4 (drop 1 front.now) ≡ signature) × (drop 4 (drop 1 front.now) ≡ to_be_bytes w64 capacity → ⊥))) }
 {
@@ -69,7 +70,7 @@ fn check_front(front: &[u8], capacity: u64) -> Result<bool, OpenError>
     if !are_same(number, &capacity.to_be_bytes()) {
         return Err(OpenError::OtherCapacity);
     }
-    Ok(front[0] == COMMIT_MARK)
+    Ok(Half::of_selector(front[0]))
 }
 
 /// Returns the records of a disk of `len` bytes.
@@ -95,10 +96,11 @@ pub(crate) fn read_current<D: Disk>(
     ensures quiet { IsQuiet D.seen D.may_leave D.moment D.left_since D.faults D.capacity disk.old disk.new }
     ensures cause { IsErrOf result errors.DiskFault → Rose (D.faults disk.old) (D.faults disk.new) }
     ensures calls { IsUpTo (3 * half_size capacity + 5) 0 (D.tally disk.old) (D.tally disk.new) }
+    ensures granted { OnOk result (D.refusals disk.new ≡ D.refusals disk.old) }
 {
     match current {
         Current::Blank => Ok(Vec::new(alloc)),
-        Current::Half { first } => read_half(alloc, disk, len, capacity, label, first),
+        Current::Half(half) => read_half(alloc, disk, len, capacity, label, half),
     }
 }
 
@@ -112,11 +114,11 @@ fn read_half<D: Disk>(
     len: u64,
     capacity: u64,
     label: &[u8],
-    first: bool,
+    half: Half,
 ) -> Result<Vec<Vec<Change>>, OpenError>
     requires len { len ≡ length (D.seen disk.old) }
     requires fits { (length label.now < 2 ^ 32) × (4 + length label.now ≤ half_size capacity) }
-    requires current { IsCurrently capacity (Current.Half first) (D.seen disk.old) }
+    requires current { IsCurrently capacity (Current.Half half) (D.seen disk.old) }
     ensures records { IfOk result (λ records. IsReadAs (layout capacity label.now) (record_lists records.items) (D.seen disk.old)) }
     ensures damaged { (at : ℕ) → IsErrOf result (errors.Damaged at) → IsDamaged (layout capacity label.now) at (D.seen disk.old) }
     ensures other_label { IsErrOf result errors.OtherLabel → HasOtherLabel (layout capacity label.now) (D.seen disk.old) }
@@ -125,56 +127,61 @@ fn read_half<D: Disk>(
     ensures quiet { IsQuiet D.seen D.may_leave D.moment D.left_since D.faults D.capacity disk.old disk.new }
     ensures cause { IsErrOf result errors.DiskFault → Rose (D.faults disk.old) (D.faults disk.new) }
     ensures calls { IsUpTo (3 * half_size capacity + 5) 0 (D.tally disk.old) (D.tally disk.new) }
+    ensures granted { OnOk result (D.refusals disk.new ≡ D.refusals disk.old) }
 {
-    let half = base(capacity, first);
-    if ends_before(first, len, half) {
+    let at = base(capacity, half);
+    if ends_before(half, len, at) {
         return Ok(Vec::new(alloc));
     }
-    let most = (len - half).min(half_bytes(capacity));
-    let size = match check_label(alloc, disk, half, most, label) {
+    let most = (len - at).min(half_bytes(capacity));
+    let size = match check_label(alloc, disk, at, most, label) {
         Ok(size) => size,
         Err(error) => return Err(error),
     };
-    match read_on(alloc, disk, half + size, half + most) {
+    match read_on(alloc, disk, at + size, at + most) {
         Ok(records) => Ok(records),
         Err(error) => Err(OpenError::from(error)),
     }
 }
 
-/// Returns true if the second half is current, and the disk ends before it.
-fn ends_before(first: bool, len: u64, half: u64) -> bool
-    ensures yes { result ≡ true → (first ≡ false) × (len ≤ half) }
-    ensures no { result ≡ false → (first ≡ true) ⊎ (half < len) }
+/// Returns true if the second half is current, and a disk of `len` bytes ends before it, which begins at `at`.
+fn ends_before(half: Half, len: u64, at: u64) -> bool
+    ensures yes { result ≡ true → (half ≡ Half.Second) × (len ≤ at) }
+    ensures no { result ≡ false → (half ≡ Half.First) ⊎ (at < len) }
 {
-    !first && len <= half
+    match half {
+        Half::First => false,
+        Half::Second => len <= at,
+    }
 }
 
-/// Returns the length of the header of a label, with which the `most` bytes from `half` on begin.
+/// Returns the length of the header of a label, with which the `most` bytes from `at` on begin.
 ///
 /// # Errors
 /// `OtherLabel` if they begin with anything else; `DiskFault`; `OutOfMemory`.
 fn check_label<D: Disk>(
     alloc: Global,
     disk: &mut D,
-    half: u64,
+    at: u64,
     most: u64,
     label: &[u8],
 ) -> Result<u64, OpenError>
-    requires within { half + most ≤ length (D.seen disk.old) }
-    requires small { half + most < 2 ^ 48 }
+    requires within { at + most ≤ length (D.seen disk.old) }
+    requires small { at + most < 2 ^ 48 }
     requires label { length label.now < 2 ^ 32 }
-    ensures header { IfOk result (λ size. (size ≡ length (header label.now)) × (take (min most size) (drop half (D.seen disk.old)) ≡ header label.now)) }
-    ensures other { IsErrOf result errors.OtherLabel → take (min most (length (header label.now))) (drop half (D.seen disk.old)) ≡ header label.now → ⊥ }
+    ensures header { IfOk result (λ size. (size ≡ length (header label.now)) × (take (min most size) (drop at (D.seen disk.old)) ≡ header label.now)) }
+    ensures other { IsErrOf result errors.OtherLabel → take (min most (length (header label.now))) (drop at (D.seen disk.old)) ≡ header label.now → ⊥ }
     ensures not_damaged { (at : ℕ) → IsErrOf result (errors.Damaged at) → ⊥ }
     ensures one_capacity { IsErrOf result errors.OtherCapacity → ⊥ }
     ensures not_full { IsErrOf result errors.Full → ⊥ }
     ensures quiet { IsQuiet D.seen D.may_leave D.moment D.left_since D.faults D.capacity disk.old disk.new }
     ensures cause { IsErrOf result errors.DiskFault → Rose (D.faults disk.old) (D.faults disk.new) }
     ensures calls { IsUpTo most 0 (D.tally disk.old) (D.tally disk.new) }
+    ensures granted { OnOk result (D.refusals disk.new ≡ D.refusals disk.old) }
 {
     let header = header_of(alloc, label)?;
     let size = header.len() as u64;
-    let found = read_range(alloc, disk, half, most.min(size))?;
+    let found = read_range(alloc, disk, at, most.min(size))?;
     if !are_same(&found, &header) {
         return Err(OpenError::OtherLabel);
     }

@@ -1,6 +1,6 @@
 //! The records on a disk, one after the other.
 
-ghost use Rattle.std.specs.Prelude.{◌≡◌, ◌≢◌, ◌⊎◌, true, false, slice_index, ◌+◌, ◌-◌, ◌*◌, ◌<◌, ◌≤◌, ◌^◌, ◌∷◌, [], List, ℕ, length, take, drop, IfOk, IsErrOf, None, Some, MatchOption};
+ghost use Rattle.std.specs.Prelude.{◌≡◌, ◌≢◌, ◌⊎◌, true, false, slice_index, ◌+◌, ◌-◌, ◌*◌, ◌<◌, ◌≤◌, ◌^◌, ◌∷◌, [], List, ℕ, length, take, drop, IfOk, IsErrOf, None, Some, MatchOption, OnOk};
 ghost use Rattle.crash_disk.specs.Calls.{IsUpTo};
 ghost use Rattle.crash_disk.specs.Disk.{IsQuiet};
 ghost use Rattle.teb_io.specs.Faults.{Rose};
@@ -32,6 +32,7 @@ pub(crate) fn read_on<D: Disk>(
     ensures quiet { IsQuiet D.seen D.may_leave D.moment D.left_since D.faults D.capacity disk.old disk.new }
     ensures cause { IsErrOf result RecoverError.DiskFault → Rose (D.faults disk.old) (D.faults disk.new) }
     ensures calls { IsUpTo (2 * (until - at) + 5) 0 (D.tally disk.old) (D.tally disk.new) }
+    ensures granted { OnOk result (D.refusals disk.new ≡ D.refusals disk.old) }
 {
     let mut records = Vec::new(alloc);
     let mut place = at;
@@ -59,6 +60,7 @@ fn read_next<D: Disk>(
     ensures cause { IsErrOf result RecoverError.DiskFault → Rose (D.faults disk.old) (D.faults disk.new) }
     ensures calls { IsUpTo (until - at + 5) 0 (D.tally disk.old) (D.tally disk.new) }
     ensures record_calls { IfOk result (λ found. MatchOption found (IsUpTo 5 0 (D.tally disk.old) (D.tally disk.new)) (λ v. IsUpTo (9 + 14 * length v.items) 0 (D.tally disk.old) (D.tally disk.new))) }
+    ensures granted { OnOk result (D.refusals disk.new ≡ D.refusals disk.old) }
 {
     let most = until - at;
     let front = read_range(alloc, disk, at, most.min(5))?;

@@ -57,7 +57,7 @@ impl<D: Disk> RecoveredDisk<D> {
     {
         match self.current {
             Current::Blank => 0,
-            Current::Half { first } => base(self.capacity, first),
+            Current::Half(half) => base(self.capacity, half),
         }
     }
 

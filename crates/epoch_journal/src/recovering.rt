@@ -67,6 +67,7 @@ impl<D: Disk> RecoveredDisk<D> {
 
         // Nothing is written.
         ensures quiet { IfOk result (λ d. IsQuiet D.seen D.may_leave D.moment D.left_since D.faults D.capacity disk d.disk × Only (D.seen disk) (D.may_leave d.disk)) }
+        ensures granted { IfOk result (λ d. D.refusals d.disk ≡ D.refusals disk) }
         ensures unwritten { IfErr result (λ back. IsQuiet D.seen D.may_leave D.moment D.left_since D.faults D.capacity disk back.disk) }
         ensures calls { IfOk result (λ d. IsUpTo (3 * half_size (D.capacity disk) + 20) 0 (D.tally disk) (D.tally d.disk)) }
         ensures calls_back { IfErr result (λ back. IsUpTo (3 * half_size (D.capacity disk) + 20) 0 (D.tally disk) (D.tally back.disk)) }
@@ -116,6 +117,7 @@ fn read_disk<D: Disk>(
     ensures safe { IfOk result (λ found. Only (D.seen disk.old) (D.may_leave disk.new)) }
     ensures cause { IsErrOf result errors.DiskFault → Rose (D.faults disk.old) (D.faults disk.new) }
     ensures calls { IsUpTo (3 * half_size capacity + 20) 0 (D.tally disk.old) (D.tally disk.new) }
+    ensures granted { OnOk result (D.refusals disk.new ≡ D.refusals disk.old) }
 {
     if !fits_header(capacity, label) {
         return Err(OpenError::Full);
@@ -151,6 +153,7 @@ fn settled_len<D: Disk>(disk: &mut D) -> Result<u64, Failed>
     ensures safe { OnOk result (Only (D.seen disk.old) (D.may_leave disk.new)) }
     ensures cause { HasCause (D.faults disk.old) (D.faults disk.new) result }
     ensures calls { IsUpTo 2 0 (D.tally disk.old) (D.tally disk.new) }
+    ensures granted { OnOk result (D.refusals disk.new ≡ D.refusals disk.old) }
 {
     disk.sync()?;
     let len = disk.len()?;

@@ -17,7 +17,7 @@ impl<D: Renew> EpochJournal<D> {
     /// The journal, unchanged: it is stopped, or out of memory.
     pub fn renew(self, alloc: Global) -> Result<EpochJournal<D>, EpochJournal<D>>
         ensures kept { (start : Values) (all : List Record) (least : ℕ) → Keeps D.seen D.may_leave start all least self → IfOk result (λ j. Keeps D.seen D.may_leave start all least j) }
-        ensures same { IfOk result (λ j. (j.layout ≡ self.layout) × (j.first ≡ self.first) × (j.end ≡ self.end) × (j.acknowledged ≡ self.acknowledged) × (j.stopped ≡ self.stopped)) }
+        ensures same { IfOk result (λ j. (j.layout ≡ self.layout) × (j.half ≡ self.half) × (j.end ≡ self.end) × (j.acknowledged ≡ self.acknowledged) × (j.stopped ≡ self.stopped)) }
         ensures seen { IfOk result (λ j. D.seen j.disk ≡ D.seen self.disk) }
         ensures made { IfOk result (λ j. (D.tally j.disk).made ≡ (D.tally self.disk).made) }
         ensures stop { IfOk result (λ j. (D.tally j.disk).promise.stop ≡ (D.tally self.disk).promise.stop) }

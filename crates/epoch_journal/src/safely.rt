@@ -5,6 +5,7 @@ ghost use Rattle.crash_disk.specs.Calls.{AreCalls};
 ghost use Rattle.crash_disk.specs.Disk.{Holds, IsTorn, LeavesOnly, Only};
 ghost use Rattle.crash_disk.specs.Spare.{UsesUp};
 ghost use Rattle.teb_io.specs.Faults.{HasCause};
+ghost use Rattle.epoch_journal.specs.Refusals.{CountsRefusals};
 
 use crash_disk::Disk;
 use teb_io::Failed;
@@ -27,6 +28,7 @@ pub(crate) fn write_safely<D: Disk>(disk: &mut D, at: u64, bytes: &[u8]) -> Resu
     ensures cause { HasCause (D.faults disk.old) (D.faults disk.new) result }
     ensures calls { AreCalls (D.tally disk.old).promise.writes 2 (length bytes.now) (D.tally disk.old) (D.tally disk.new) result }
     ensures memory { UsesUp 2 (length bytes.now) (at + length bytes.now) (D.spare disk.old) (D.spare disk.new) (D.refusals disk.old) (D.refusals disk.new) }
+    ensures refusals { CountsRefusals D.tells_failures D.tally D.refusals disk.old disk.new result }
 {
     disk.write_at(at, bytes)?;
     disk.sync()?;

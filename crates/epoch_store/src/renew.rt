@@ -17,7 +17,7 @@ impl<E: Recorder, D: Renew> EpochStore<E, D> {
     /// The store, unchanged: it is stopped, or out of memory.
     pub fn renew(self, alloc: Global) -> Result<EpochStore<E, D>, EpochStore<E, D>>
         ensures engine { IfOk result (λ s. s.engine ≡ self.engine) }
-        ensures same { IfOk result (λ s. (s.journal.layout ≡ self.journal.layout) × (s.journal.first ≡ self.journal.first) × (s.journal.end ≡ self.journal.end)
+        ensures same { IfOk result (λ s. (s.journal.layout ≡ self.journal.layout) × (s.journal.half ≡ self.journal.half) × (s.journal.end ≡ self.journal.end)
             × (s.journal.acknowledged ≡ self.journal.acknowledged) × (s.journal.stopped ≡ self.journal.stopped)) }
         ensures seen { IfOk result (λ s. D.seen s.journal.disk ≡ D.seen self.journal.disk) }
         ensures made { IfOk result (λ s. (D.tally s.journal.disk).made ≡ (D.tally self.journal.disk).made) }

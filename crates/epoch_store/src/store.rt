@@ -1,6 +1,6 @@
 //! A store whose commits are kept on a disk.
 
-ghost use Rattle.std.specs.Prelude.{◌≡◌, ◌⊎◌, ◌+◌, ◌-◌, ◌*◌, ◌<◌, ◌≤◌, ◌^◌, [], length, Some, None, true, false, IsTrue, IfOk, IfErr, OnOk, OnErr, IsErrOf, List, ℕ};
+ghost use Rattle.std.specs.Prelude.{◌≡◌, ◌⊎◌, ◌+◌, ◌-◌, ◌*◌, ◌<◌, ◌≤◌, ◌^◌, [], length, Some, None, true, false, IsTrue, IsOk, IfOk, IfErr, OnOk, OnErr, IsErrOf, List, ℕ};
 ghost use Rattle.teb_io.specs.Faults.{Rose};
 ghost use Rattle.teb_rules.specs.declared.names.Cell.{Cell as TheCell};
 ghost use Rattle.teb_rules.specs.declared.names.Reply.TheVariants as replies;
@@ -15,6 +15,7 @@ ghost use Rattle.epoch_journal.specs.Layout.{half_size};
 ghost use Rattle.epoch_journal.specs.Telling.{TellsOn};
 ghost use Rattle.epoch_journal.specs.Kept.{Keeps};
 ghost use Rattle.epoch_journal.specs.Memory.{IsForRecord};
+ghost use Rattle.epoch_journal.specs.Refusals.{IsReliable};
 ghost use Rattle.epoch_journal.specs.declared.error.CheckpointError.TheVariants as epochs;
 ghost use Rattle.epoch_store.specs.Told.{IsToldBy, acknowledged_after, events_after, told};
 ghost use Rattle.epoch_store.specs.declared.error.AskError.TheVariants as errors;
@@ -98,8 +99,10 @@ impl<E: Recorder, D: Disk> EpochStore<E, D> {
         ensures unsure { IsErrOf result errors.Unsure → ((answer (E.store self.old.engine) (E.events self.old.engine) session request).0 ≡ replies.Committed)
             × (self.new.journal.stopped ≡ true) × Rose (D.faults self.old.journal.disk) (D.faults self.new.journal.disk) }
 
-        // No call of the disk is refused memory.
+        // No call of the disk is refused memory. So a store on a disk that fails only if it is refused memory is never unsure.
         ensures memory { D.refusals self.new.journal.disk ≡ D.refusals self.old.journal.disk }
+        ensures sure { IsReliable D.tells_failures D.tally D.refusals self.old.journal.disk → IsErrOf result errors.Unsure → ⊥ }
+        ensures promise { (D.tally self.new.journal.disk).promise ≡ (D.tally self.old.journal.disk).promise }
 
         // Only a commit touches the disk.
         ensures untouched { IfOk result (λ reply. (reply ≡ replies.Committed → ⊥) → self.new.journal ≡ self.old.journal) }
@@ -185,7 +188,11 @@ impl<E: Recorder, D: Disk> EpochStore<E, D> {
         ensures back { IfErr result (λ refused. (refused.next ≡ next) × (self.new.engine ≡ self.old.engine) × (self.new.journal.acknowledged ≡ self.old.journal.acknowledged)) }
         ensures unchanged { IfErr result (λ refused. (refused.why ≡ epochs.DiskFault → ⊥) → self.new ≡ self.old) }
         ensures layout { self.new.journal.layout ≡ self.old.journal.layout }
+
+        // No call of the disk is refused memory. So a disk that fails only if it is refused memory does not fail.
         ensures memory { D.refusals self.new.journal.disk ≡ D.refusals self.old.journal.disk }
+        ensures sure { IsReliable D.tells_failures D.tally D.refusals self.old.journal.disk → IfErr result (λ refused. refused.why ≡ epochs.DiskFault → ⊥) }
+
         ensures full { IfErr result (λ refused. refused.why ≡ epochs.Full
             → half_size self.old.journal.layout.capacity < 10 + length self.old.journal.layout.label + 14 * length (E.store next).rows) }
         ensures fault { IfErr result (λ refused. refused.why ≡ epochs.DiskFault
@@ -227,6 +234,7 @@ pub(crate) fn begin_with<E: Recorder, D: Disk>(
     ensures place { OnErr result (journal.new.acknowledged ≡ journal.old.acknowledged) }
     ensures layout { journal.new.layout ≡ journal.old.layout }
     ensures memory { D.refusals journal.new.disk ≡ D.refusals journal.old.disk }
+    ensures sure { IsReliable D.tells_failures D.tally D.refusals journal.old.disk → IsErrOf result epochs.DiskFault → ⊥ }
     ensures full { IsErrOf result epochs.Full → half_size journal.old.layout.capacity < 10 + length journal.old.layout.label + 14 * length (E.store next.now).rows }
     ensures unchanged { IfErr result (λ e. (e ≡ epochs.DiskFault → ⊥) → journal.new ≡ journal.old) }
     ensures fault { IsErrOf result epochs.DiskFault → (journal.new.stopped ≡ true) × Rose (D.faults journal.old.disk) (D.faults journal.new.disk) }
@@ -326,6 +334,8 @@ fn answered<E: Recorder, D: Disk>(
     ensures names { E.names engine.new ≡ E.names engine.old }
     ensures layout { journal.new.layout ≡ journal.old.layout }
     ensures memory { D.refusals journal.new.disk ≡ D.refusals journal.old.disk }
+    ensures sure { IsReliable D.tells_failures D.tally D.refusals journal.old.disk → IsOk result }
+    ensures promise { (D.tally journal.new.disk).promise ≡ (D.tally journal.old.disk).promise }
     ensures acknowledged { journal.new.acknowledged ≡ acknowledged_after journal.old.acknowledged result }
     ensures goes_on { OnOk result (journal.new.stopped ≡ false) }
     ensures unsure { IfErr result (λ e. (e ≡ errors.Unsure) × ((answer (E.store engine.old) (E.events engine.old) session request).0 ≡ replies.Committed)

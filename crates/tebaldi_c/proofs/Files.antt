@@ -1,16 +1,15 @@
 -- What a crash leaves of a file after each step.
-use Rattle.std.proofs.Common.{◌≡◌, ◌-◌, ◌+◌, ◌<◌, ◌≤◌, ℕ, List, [], true, false, nat_eq, length, refl, sym, ◌∙◌, ap, subst, arith, true≢false, Result, Err, rules}
+use Rattle.std.proofs.Common.{◌≡◌, ◌-◌, ◌+◌, ◌<◌, ◌≤◌, ℕ, List, [], true, false, nat_eq, length, refl, sym, ◌∙◌, ap, subst, arith, rules}
 use Rattle.crash_disk.specs.Disk.{LeavesOnly}
-use Rattle.crash_disk.specs.Log.{LeftSince, MayLeave}
+use Rattle.crash_disk.specs.Calls.{Tally, memory_tally}
+use Rattle.crash_disk.specs.Log.{LeftSince, MayLeave, byte_count}
 use Rattle.crash_disk.specs.LogLaws.{only_now}
 use Rattle.crash_disk.specs.declared.memory.MemDisk.{MemDisk}
 use Rattle.commit_laws.specs.Commits.{commit_count}
+use Rattle.epoch_journal.specs.Refusals.{IsReliable}
 use Rattle.engine_core.specs.EngineModel.{EngineModel}
-use Rattle.epoch_store.specs.Stored.{Stored}
-use Rattle.engine_store.specs.declared.error.NextError.{NextError}
-use Rattle.engine_store.specs.declared.error.NextError.TheVariants.{DiskFault}
 use Rattle.engine_store.specs.Telling.{TellsCommits}
-use Rattle.tebaldi_c.specs.Shelves.{FileState, KeepsFile, calls, next_place}
+use Rattle.tebaldi_c.specs.Shelves.{DoesNotFail, FileState, KeepsFile, calls, next_place}
 
 -- the clock of a disk in memory, and the images since a moment
 abbrev pub clock : MemDisk → ℕ
@@ -22,8 +21,8 @@ images m t c = LeftSince m.log.steps t c
 -- if no call waits, it is enough that whatever a crash may leave now tells the acknowledged commits
 pub none_waits : (e : EngineModel) (f : FileState) → f.waiting ≡ 0 → f.opened ≡ true → f.kept ≡ f.journal.acknowledged
     → ((image : List ℕ) → MayLeave (calls f) image → TellsCommits f.journal.layout e.store e.events f.journal.acknowledged image)
-    → (f.journal.stopped ≡ false → f.journal.acknowledged ≡ commit_count e.events) → KeepsFile e f
-none_waits e f none opened kept leaves all = record {
+    → (f.journal.stopped ≡ false → f.journal.acknowledged ≡ commit_count e.events) → DoesNotFail f.journal.disk → KeepsFile e f
+none_waits e f none opened kept leaves all disk = record {
   few = omega (arith, none);
   each = λ _ image left.
       let at : next_place f ≡ length (calls f) = omega (arith, none) in
@@ -31,20 +30,22 @@ none_waits e f none opened kept leaves all = record {
       (leaves image (only_now (calls f) image (subst (λ (t : ℕ). LeftSince (calls f) t image) at left)));
   settled = λ _. (opened, kept);
   all = all;
+  disk = disk;
 }
 
 -- if the calls since a moment wait, it is enough that whatever a crash left from that moment on tells the kept commits
 pub moved : (e : EngineModel) (f : FileState) (old : MemDisk) → f.waiting ≡ length (calls f) - length old.log.steps
     → LeavesOnly clock images old f.journal.disk (TellsCommits f.journal.layout e.store e.events f.kept)
     → (f.waiting ≡ 0 → (f.opened ≡ true) × (f.kept ≡ f.journal.acknowledged))
-    → (f.journal.stopped ≡ false → f.journal.acknowledged ≡ commit_count e.events) → KeepsFile e f
-moved e f old waiting leaves settled all = record {
+    → (f.journal.stopped ≡ false → f.journal.acknowledged ≡ commit_count e.events) → DoesNotFail f.journal.disk → KeepsFile e f
+moved e f old waiting leaves settled all disk = record {
   few = omega (arith, waiting);
   each = λ _ image left.
       let at : next_place f ≡ length old.log.steps = omega (arith, waiting, leaves.later) in
       leaves.each image (subst (λ (t : ℕ). LeftSince (calls f) t image) at left);
   settled = settled;
   all = all;
+  disk = disk;
 }
 
 pub no_commits : commit_count [] ≡ 0
@@ -53,12 +54,14 @@ no_commits = refl
 
 -- a store that was just opened: once no call waits, its images are those of the store
 pub begins : (e : EngineModel) (f : FileState) → f.waiting ≤ length (calls f) → (f.opened ≡ true → f.waiting ≡ 0) → (f.waiting ≡ 0 → f.opened ≡ true) → f.kept ≡ 0
-    → f.journal.acknowledged ≡ 0 → e.events ≡ [] → ((image : List ℕ) → MayLeave (calls f) image → TellsCommits f.journal.layout e.store e.events f.journal.acknowledged image) → KeepsFile e f
-begins e f few opened waits kept none empty leaves = record {
+    → f.journal.acknowledged ≡ 0 → e.events ≡ [] → ((image : List ℕ) → MayLeave (calls f) image → TellsCommits f.journal.layout e.store e.events f.journal.acknowledged image) → DoesNotFail f.journal.disk
+    → KeepsFile e f
+begins e f few opened waits kept none empty leaves disk = record {
   few = few;
-  each = λ is. (none_waits e f (opened is) is (kept ∙ sym none) leaves all).each is;
+  each = λ is. (none_waits e f (opened is) is (kept ∙ sym none) leaves all disk).each is;
   settled = λ zero. (waits zero, kept ∙ sym none);
   all = all;
+  disk = disk;
 }
   where
     all : f.journal.stopped ≡ false → f.journal.acknowledged ≡ commit_count e.events
@@ -76,6 +79,7 @@ one_fewer e f g k journal opened kept fewer some = record {
       (l.0, omega (arith, l.1, fewer, k.few, same), l.2, l.3))));
   settled = λ none. absurd (omega (arith, none, some));
   all = subst (λ (j : _). j.stopped ≡ false → j.acknowledged ≡ commit_count e.events) (sym journal) k.all;
+  disk = subst (λ (j : _). DoesNotFail j.disk) (sym journal) k.disk;
 }
   where
     same : length (calls g) ≡ length (calls f)
@@ -84,13 +88,15 @@ one_fewer e f g k journal opened kept fewer some = record {
 pub is_zero : (n : ℕ) → nat_eq n 0 ≡ true → n ≡ 0
 is_zero n is = search rules
 
-abbrev err : NextError → Result EngineModel NextError
-err e = Err e
+-- what a store on such a disk needs
+abbrev no_failures : MemDisk → Type 0
+no_failures m = Unit {0}
 
--- if the store has not failed, it is unchanged, so all its commits are acknowledged
-pub still_all : (was new : Stored EngineModel MemDisk) (why : NextError) → (was.journal.stopped ≡ false → was.journal.acknowledged ≡ commit_count was.engine.events)
-    → ((why ≡ DiskFault → ⊥) → new ≡ was) → (err why ≡ err DiskFault → new.journal.stopped ≡ true)
-    → new.journal.stopped ≡ false → new.journal.acknowledged ≡ commit_count new.engine.events
-still_all was new why all same fails runs =
-    let stays = same (λ is. true≢false (sym (fails (ap err is)) ∙ runs)) in
-    subst (λ (s : Stored EngineModel MemDisk). s.journal.stopped ≡ false → s.journal.acknowledged ≡ commit_count s.engine.events) (sym stays) all runs
+abbrev refusals : MemDisk → ℕ
+refusals m = m.counter.refusals
+
+abbrev tally : MemDisk → Tally
+tally m = memory_tally m.counter.made (byte_count m.log.steps) m.counter.stop m.log.room
+
+pub reliable : (disk : MemDisk) → DoesNotFail disk → IsReliable no_failures tally refusals disk
+reliable disk is = record { tells = λ d. tt; no_stop = is.no_stop; counts = omega (arith, is.granted) }

@@ -6,7 +6,7 @@ use Rattle.engine_core.specs.EngineModel.{EngineModel}
 use Rattle.c_forms.specs.declared.replies.ReplyForm.{ReplyForm}
 use Rattle.c_forms.specs.Replies.{reply_form}
 use Rattle.tebaldi_c.specs.Shelves.{FileState, ShelfState}
-use Rattle.tebaldi_c.specs.declared.status.TheConstants.{OK, NOT_OPEN, BAD_VERB, OUT_OF_MEMORY, STOPPED, UNSURE, NO_ROOM, WAITING}
+use Rattle.tebaldi_c.specs.declared.status.TheConstants.{OK, NOT_OPEN, BAD_VERB, OUT_OF_MEMORY, STOPPED, NO_ROOM, WAITING}
 
 -- the engine has answered a request of a session, and this is the form of its reply
 pub record IsAnswered (old new : EngineModel) (session : ℕ) (r : Request) (told : ReplyForm) : Type 0 where
@@ -62,7 +62,7 @@ IsOfMemoryAsk n = (n ≡ OK) ⊎ (n ≡ NOT_OPEN) ⊎ (n ≡ BAD_VERB) ⊎ (n �
 
 -- why an open store has no reply
 abbrev pub IsNoReply : ℕ → Type 0
-IsNoReply n = (n ≡ OUT_OF_MEMORY) ⊎ (n ≡ STOPPED) ⊎ (n ≡ UNSURE) ⊎ (n ≡ NO_ROOM) ⊎ (n ≡ WAITING)
+IsNoReply n = (n ≡ OUT_OF_MEMORY) ⊎ (n ≡ STOPPED) ⊎ (n ≡ NO_ROOM) ⊎ (n ≡ WAITING)
 
 -- what an ask may return
 abbrev pub IsOfAsk : ℕ → Type 0

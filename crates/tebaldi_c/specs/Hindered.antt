@@ -1,14 +1,10 @@
--- Why a store in a file does not answer, and what is left of it.
+-- Why a store in a file does not answer.
 use Rattle.std.specs.Prelude.{◌≡◌, ◌<◌, ◌-◌, ◌||◌, ℕ, true, Option, Some, None}
 use Rattle.teb_rules.specs.declared.names.Request.{Request}
-use Rattle.teb_rules.specs.declared.names.Reply.TheVariants.{Committed}
-use Rattle.teb_rules.specs.Answer.{answer}
-use Rattle.engine_core.specs.EngineModel.{EngineModel}
 use Rattle.commit_journal.specs.Kept.{IsFull}
 use Rattle.epoch_journal.specs.Layout.{half_size}
 use Rattle.engine_store.specs.Next.{HasNoRoom}
-use Rattle.tebaldi_c.specs.Images.{IfFiled}
-use Rattle.tebaldi_c.specs.Shelves.{Filed, ShelfState}
+use Rattle.tebaldi_c.specs.Shelves.{Filed}
 
 abbrev pub HasWaiting : Filed → Type 0
 HasWaiting f = 0 < f.file.waiting
@@ -28,20 +24,3 @@ IsFullForForm s (Some r) f = IsFullFor s r f
 -- the rows do not fit the file
 abbrev pub HasNoRoomForRows : Filed → Type 0
 HasNoRoomForRows f = HasNoRoom f.file.journal.layout f.engine
-
--- the request is a commit, which the engine has made
-pub record HasCommitted (old new : EngineModel) (session : ℕ) (r : Request) : Type 0 where
-  pub reply : (answer old.store old.events (record { 0 = session }) r).0 ≡ Committed
-  pub events : new.events ≡ (answer old.store old.events (record { 0 = session }) r).1
-  pub store : new.store ≡ old.store
-  pub names : new.names ≡ old.names
-
--- the engine has made a commit that the file may have or not, and the store is stopped
-abbrev pub IsUnsure : Option ShelfState → Option ShelfState → ℕ → Option Request → Type 0
-IsUnsure (Some old) (Some new) s (Some r) = HasCommitted old.engine new.engine s r × IfFiled new IsStopped
-IsUnsure _ _ s _ = ⊥
-
--- the engine is the same, and the store is stopped
-abbrev pub IsStoppedAt : Option ShelfState → Option ShelfState → Type 0
-IsStoppedAt (Some old) (Some new) = (new.engine ≡ old.engine) × IfFiled new IsStopped
-IsStoppedAt _ _ = ⊥

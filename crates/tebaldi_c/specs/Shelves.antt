@@ -29,6 +29,11 @@ calls f = f.journal.disk.log.steps
 abbrev pub next_place : FileState → ℕ
 next_place f = length (calls f) - f.waiting
 
+-- The disk in memory fails at no call, and none of its calls was refused memory.
+pub record DoesNotFail (disk : MemDisk) : Type 0 where
+  pub no_stop : disk.counter.stop ≡ 0
+  pub granted : disk.counter.refusals ≡ 0
+
 -- Each image that a crash may leave of a file on which the calls before the waiting ones were performed, now or while those are performed,
 -- has the rows after the first commits, at least those that are kept.
 pub record KeepsFile (e : EngineModel) (f : FileState) : Type 0 where
@@ -36,6 +41,7 @@ pub record KeepsFile (e : EngineModel) (f : FileState) : Type 0 where
   pub each : f.opened ≡ true → (image : List ℕ) → LeftSince (calls f) (next_place f) image → TellsCommits f.journal.layout e.store e.events f.kept image
   pub settled : f.waiting ≡ 0 → (f.opened ≡ true) × (f.kept ≡ f.journal.acknowledged)
   pub all : f.journal.stopped ≡ false → f.journal.acknowledged ≡ commit_count e.events
+  pub disk : DoesNotFail f.journal.disk
 
 -- a store in a file
 pub record Filed : Type 0 where

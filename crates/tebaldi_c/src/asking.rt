@@ -5,7 +5,7 @@ ghost use Rattle.teb_rules.specs.Answer.{answer};
 ghost use Rattle.c_forms.specs.Requests.{request_in as read};
 ghost use Rattle.c_forms.specs.Replies.{reply_form as form};
 ghost use Rattle.tebaldi_c.specs.Asking.{IfOpen, IsAnswered, IsAsked, IsKept, IsFileKept, HasFailed, IsFailed, IsInMemory, IsNoReply, IsOfAsk, IsOfMemoryAsk};
-ghost use Rattle.tebaldi_c.specs.Hindered.{HasCommitted, HasWaiting, IsFullFor, IsFullForForm, IsStopped, IsUnsure};
+ghost use Rattle.tebaldi_c.specs.Hindered.{HasWaiting, IsFullFor, IsFullForForm, IsStopped};
 ghost use Rattle.tebaldi_c.specs.Images.{IfFiled};
 
 use crate::contents::Contents;
@@ -26,8 +26,7 @@ use teb_rules::names::{Request, Session};
 /// # Errors
 /// `NOT_OPEN`, `BAD_VERB`, `OUT_OF_MEMORY`. Of a store in a file also `WAITING` if calls wait, `STOPPED` if a call on the file has failed,
 /// and `NO_ROOM` if the rest of this epoch's part of the file may not hold the commit. At each of them the store and the reply are
-/// unchanged. `UNSURE` if a call of the disk in memory fails at a commit: the store has the commit and is stopped, and the reply is
-/// unchanged. That disk fails only if it is refused memory, and no call is (`EngineStore::ask`, clause `memory`).
+/// unchanged.
 #[unsafe(no_mangle)]
 pub extern "C" fn tebaldi_ask(
     alloc: Global,
@@ -37,8 +36,8 @@ pub extern "C" fn tebaldi_ask(
     reply: &mut ReplyForm,
 ) -> u32
     ensures ok { result ≡ OK → IsAsked store.old.held.value store.new.held.value session (read request.now) reply.new }
-    ensures stays { result ≢ OK → result ≢ UNSURE → store.new.held.value ≡ store.old.held.value }
-    ensures in_memory { IsInMemory store.old.held.value → (result ≢ OK → store.new.held.value ≡ store.old.held.value) × IsOfMemoryAsk result }
+    ensures stays { result ≢ OK → store.new.held.value ≡ store.old.held.value }
+    ensures in_memory { IsInMemory store.old.held.value → IsOfMemoryAsk result }
     ensures not_told { result ≢ OK → reply.new ≡ reply.old }
     ensures kept { IsKept store.old.held.value store.new.held.value }
     ensures failed { HasFailed store.old.held.value → result ≢ OK }
@@ -46,7 +45,7 @@ pub extern "C" fn tebaldi_ask(
     ensures waiting { result ≡ WAITING → IfOpen store.old.held.value (λ s. IfFiled s HasWaiting) }
     ensures stopped { result ≡ STOPPED → IfOpen store.old.held.value (λ s. IfFiled s IsStopped) }
     ensures no_room { result ≡ NO_ROOM → IfOpen store.old.held.value (λ s. IfFiled s (IsFullForForm session (read request.now))) }
-    ensures unsure { result ≡ UNSURE → IsUnsure store.old.held.value store.new.held.value session (read request.now) }
+    ensures sure { result ≢ UNSURE }
     ensures bad_verb { result ≡ BAD_VERB ↔ IsSome store.old.held.value × IsNone (read request.now) }
     ensures other { IsOfAsk result }
 {
@@ -72,14 +71,13 @@ impl Shelf {
         reply: &mut ReplyForm,
     ) -> u32
         ensures ok { result ≡ OK → IsAnswered self.old.engine self.new.engine session.0 request.now reply.new }
-        ensures stays { result ≢ OK → result ≢ UNSURE → self.new ≡ self.old }
-        ensures in_memory { self.old.file ≡ None → (result ≢ OK → self.new ≡ self.old) × ((result ≡ OK) ⊎ (result ≡ OUT_OF_MEMORY)) }
+        ensures stays { result ≢ OK → self.new ≡ self.old }
+        ensures in_memory { self.old.file ≡ None → (result ≡ OK) ⊎ (result ≡ OUT_OF_MEMORY) }
         ensures not_told { result ≢ OK → reply.new ≡ reply.old }
         ensures kept { IsFileKept self.old.file self.new.file }
         ensures waiting { result ≡ WAITING → IfFiled self.old HasWaiting }
         ensures stopped { result ≡ STOPPED → IfFiled self.old IsStopped }
         ensures no_room { result ≡ NO_ROOM → IfFiled self.old (IsFullFor session.0 request.now) }
-        ensures unsure { result ≡ UNSURE → HasCommitted self.old.engine self.new.engine session.0 request.now × IfFiled self.new IsStopped }
         ensures failed { IsFailed self.old.file → result ≢ OK }
         ensures other { (result ≡ OK) ⊎ IsNoReply result }
     {
@@ -103,7 +101,7 @@ fn ask_file(
     reply: &mut ReplyForm,
 ) -> u32
     ensures ok { result ≡ OK → IsAnswered file.old.engine file.new.engine session.0 request.now reply.new }
-    ensures stays { result ≢ OK → result ≢ UNSURE → file.new ≡ file.old }
+    ensures stays { result ≢ OK → file.new ≡ file.old }
     ensures not_told { result ≢ OK → reply.new ≡ reply.old }
     ensures same { (file.new.engine.store ≡ file.old.engine.store) × (file.new.engine.names ≡ file.old.engine.names) }
     ensures kept { 0 < file.new.file.waiting → file.new.file.kept ≡ file.old.file.kept }
@@ -111,7 +109,6 @@ fn ask_file(
     ensures waiting { result ≡ WAITING → HasWaiting file.old }
     ensures stopped { result ≡ STOPPED → IsStopped file.old }
     ensures no_room { result ≡ NO_ROOM → IsFullFor session.0 request.now file.old }
-    ensures unsure { result ≡ UNSURE → HasCommitted file.old.engine file.new.engine session.0 request.now × IsStopped file.new }
     ensures failed { file.old.file.failed ≡ true → result ≢ OK }
     ensures other { (result ≡ OK) ⊎ IsNoReply result }
 {
@@ -128,7 +125,7 @@ fn ask_file(
         }
         Err(AskError::Stopped) => STOPPED,
         Err(AskError::Full) => NO_ROOM,
-        Err(AskError::Unsure) => UNSURE,
+        Err(AskError::Unsure) => unreachable!(),
         Err(AskError::OutOfMemory) => OUT_OF_MEMORY,
     }
 }

@@ -8,7 +8,7 @@ ghost use Rattle.tree_switch.specs.Starts.{IsStarted};
 ghost use Rattle.tebaldi_c.specs.Asking.{HasFailed, IfOpen, IsFailed, IsInMemory};
 ghost use Rattle.tebaldi_c.specs.Buffers.{IsTold};
 ghost use Rattle.tebaldi_c.specs.Epochs.{HasOtherTables, IfBoth, IsFirstUnfinished, IsFirstUntold, IsHindrance, IsNext, IsNextOf, IsOfEpoch, IsOfMemoryEpoch, IsOfMemoryNext, IsOfNext};
-ghost use Rattle.tebaldi_c.specs.Hindered.{HasNoRoomForRows, HasWaiting, IsStopped, IsStoppedAt};
+ghost use Rattle.tebaldi_c.specs.Hindered.{HasNoRoomForRows, HasWaiting, IsStopped};
 ghost use Rattle.tebaldi_c.specs.Images.{IfFiled};
 ghost use Rattle.tebaldi_c.specs.Opening.{fault_line};
 ghost use Rattle.tebaldi_c.specs.SetUp.{IsSetUp};
@@ -37,9 +37,8 @@ use tree_toml::read_tree;
 /// # Errors
 /// `NOT_OPEN`. `BAD_TREE` as in `tebaldi_open`. `UNFINISHED` if a transaction is unfinished; else `UNTOLD` if a session was not told of
 /// the abort of its transaction: `who` is the first of them. `OTHER_TABLES`. `OUT_OF_MEMORY`.
-/// Of a store in a file also `WAITING`, and `NO_ROOM` if the rows do not fit the file. At each of them the store is unchanged. `STOPPED` if a
-/// call on the file has failed. The contract also allows it if a call of the disk in memory fails, for which memory is reserved first: then
-/// the store is stopped, and its file has the old epoch.
+/// Of a store in a file also `WAITING`, `STOPPED` if a call on the file has failed, and `NO_ROOM` if the rows do not fit the file. At each of
+/// them the store is unchanged.
 #[unsafe(no_mangle)]
 pub extern "C" fn tebaldi_next_epoch(
     alloc: Global,
@@ -50,8 +49,8 @@ pub extern "C" fn tebaldi_next_epoch(
     who: &mut u32,
 ) -> u32
     ensures ok { result ≡ OK → IfBoth store.old.held.value store.new.held.value (IsNextOf (setup_of_text tree.now)) }
-    ensures stays { result ≢ OK → result ≢ STOPPED → store.new.held.value ≡ store.old.held.value }
-    ensures in_memory { IsInMemory store.old.held.value → (result ≢ OK → store.new.held.value ≡ store.old.held.value) × IsOfMemoryEpoch result }
+    ensures stays { result ≢ OK → store.new.held.value ≡ store.old.held.value }
+    ensures in_memory { IsInMemory store.old.held.value → IsOfMemoryEpoch result }
     ensures stays_in_memory { IsInMemory store.old.held.value ↔ IsInMemory store.new.held.value }
     ensures failed { HasFailed store.old.held.value → result ≢ OK }
     ensures not_open { result ≡ NOT_OPEN ↔ IsNone store.old.held.value }
@@ -63,7 +62,7 @@ pub extern "C" fn tebaldi_next_epoch(
     ensures other_tables { result ≡ OTHER_TABLES → IfOpen store.old.held.value (λ s. HasOtherTables (setup_of_text tree.now) s.engine) }
     ensures waiting { result ≡ WAITING → IfOpen store.old.held.value (λ s. IfFiled s HasWaiting) }
     ensures no_room { result ≡ NO_ROOM → IfOpen store.old.held.value (λ s. IfFiled s HasNoRoomForRows) }
-    ensures stopped { result ≡ STOPPED → IsStoppedAt store.old.held.value store.new.held.value }
+    ensures stopped { result ≡ STOPPED → IfOpen store.old.held.value (λ s. IfFiled s IsStopped) }
     ensures other { IsOfEpoch result }
 {
     let Some(mut shelf) = store.take(alloc) else {
@@ -85,8 +84,8 @@ impl Shelf {
         requires nodes { IsNamed (setup_view setup) }
         requires names { HasNames (setup_view setup) }
         ensures ok { result ≡ OK → IsNext (setup_view setup) self.old.engine self.new.engine }
-        ensures stays { result ≢ OK → result ≢ STOPPED → self.new ≡ self.old }
-        ensures in_memory { self.old.file ≡ None → (result ≢ OK → self.new ≡ self.old) × ((result ≡ OK) ⊎ IsOfMemoryNext result) }
+        ensures stays { result ≢ OK → self.new ≡ self.old }
+        ensures in_memory { self.old.file ≡ None → (result ≡ OK) ⊎ IsOfMemoryNext result }
         ensures stays_in_memory { (self.old.file ≡ None) ↔ (self.new.file ≡ None) }
         ensures failed { IsFailed self.old.file → result ≢ OK }
         ensures unfinished { result ≡ UNFINISHED → IsFirstUnfinished self.old.engine who.new }
@@ -95,7 +94,7 @@ impl Shelf {
         ensures other_tables { result ≡ OTHER_TABLES → setup.names.tables ≢ self.old.engine.names.tables }
         ensures waiting { result ≡ WAITING → IfFiled self.old HasWaiting }
         ensures no_room { result ≡ NO_ROOM → IfFiled self.old HasNoRoomForRows }
-        ensures stopped { result ≡ STOPPED → (self.new.engine ≡ self.old.engine) × IfFiled self.new IsStopped }
+        ensures stopped { result ≡ STOPPED → IfFiled self.old IsStopped }
         ensures status { (result ≡ OK) ⊎ IsOfNext result }
     {
         match &mut self.contents {
@@ -112,7 +111,7 @@ fn end_file_epoch(alloc: Global, file: &mut FileStore, setup: Setup, who: &mut u
     requires nodes { IsNamed (setup_view setup) }
     requires names { HasNames (setup_view setup) }
     ensures ok { result ≡ OK → IsNext (setup_view setup) file.old.engine file.new.engine }
-    ensures stays { result ≢ OK → result ≢ STOPPED → file.new ≡ file.old }
+    ensures stays { result ≢ OK → file.new ≡ file.old }
     ensures failed { file.old.file.failed ≡ true → result ≢ OK }
     ensures unfinished { result ≡ UNFINISHED → IsFirstUnfinished file.old.engine who.new }
     ensures untold { result ≡ UNTOLD → IsFirstUntold file.old.engine who.new }
@@ -120,7 +119,7 @@ fn end_file_epoch(alloc: Global, file: &mut FileStore, setup: Setup, who: &mut u
     ensures other_tables { result ≡ OTHER_TABLES → setup.names.tables ≢ file.old.engine.names.tables }
     ensures waiting { result ≡ WAITING → HasWaiting file.old }
     ensures no_room { result ≡ NO_ROOM → HasNoRoomForRows file.old }
-    ensures stopped { result ≡ STOPPED → (file.new.engine ≡ file.old.engine) × IsStopped file.new }
+    ensures stopped { result ≡ STOPPED → IsStopped file.old }
     ensures set_up { IsSetUp file.old.engine.store file.old.engine.names → IsSetUp file.new.engine.store file.new.engine.names }
     ensures status { (result ≡ OK) ⊎ IsOfNext result }
 {
@@ -142,7 +141,8 @@ fn end_file_epoch(alloc: Global, file: &mut FileStore, setup: Setup, who: &mut u
         }
         Err(NextError::OtherTables) => OTHER_TABLES,
         Err(NextError::Full) => NO_ROOM,
-        Err(NextError::Stopped | NextError::DiskFault) => STOPPED,
+        Err(NextError::Stopped) => STOPPED,
+        Err(NextError::DiskFault) => unreachable!(),
         Err(NextError::OutOfMemory) => OUT_OF_MEMORY,
     }
 }

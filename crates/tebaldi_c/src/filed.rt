@@ -1,6 +1,6 @@
 //! A store in a file that its caller reads and writes.
 
-ghost use Rattle.std.specs.Prelude.{◌≡◌, ◌≢◌, ◌<◌, ◌+◌, ◌||◌, true, false, length, slice_get, Some, MatchOption, IfOk, IfErr, OnOk, OnErr, IsErrOf, ◌⊎◌};
+ghost use Rattle.std.specs.Prelude.{◌≡◌, ◌<◌, ◌+◌, ◌||◌, true, false, length, slice_get, Some, MatchOption, IfOk, IfErr, OnOk, OnErr, IsErrOf};
 ghost use Rattle.teb_rules.specs.Answer.{answer};
 ghost use Rattle.crash_disk.specs.Log.{contents, step_of};
 ghost use Rattle.epoch_journal.specs.Layout.{half_size};
@@ -11,7 +11,7 @@ ghost use Rattle.store_setup.specs.SetupView.{setup_view};
 ghost use Rattle.store_setup.specs.Sound.{IsWhole};
 ghost use Rattle.tree_switch.specs.Starts.{IsStarted};
 ghost use Rattle.engine_store.specs.Next.{IsCause};
-ghost use Rattle.tebaldi_c.specs.Hindered.{HasCommitted, IsFullFor, IsStopped};
+ghost use Rattle.tebaldi_c.specs.Hindered.{IsFullFor, IsStopped};
 ghost use Rattle.tebaldi_c.specs.Shelves.{calls, next_place};
 
 use chain_pool::PooledChains;
@@ -31,8 +31,7 @@ const MOST_CALLS: usize = 32_768;
 /// in their order, and tells of each.
 ///
 /// The disk in memory does not fail: it has no stop, and memory for the calls of a commit or a checkpoint is reserved before the first of
-/// them (`EngineStore`, clause `memory`). So `ask` does not return `Unsure`, nor `next_epoch` `DiskFault`. That holds by inspection of the
-/// code: the contracts of a store over any disk do not say that its disk fails only at a stop or out of memory.
+/// them (`EngineStore`, clause `sure`). So `ask` does not return `Unsure`, nor `next_epoch` `DiskFault`.
 #[derive(Drop)]
 pub struct FileStore {
     pub(crate) store: EngineStore<PooledChains, MemDisk>,
@@ -77,7 +76,7 @@ impl FileStore {
         self.kept
     }
 
-    /// True if a call on the file has failed, or one of the disk in memory. Nothing is asked then.
+    /// True if a call on the file has failed, or the store has stopped. Nothing is asked then.
     pub fn is_stopped(&self) -> bool
         ensures { result ≡ self.now.file.failed || self.now.file.journal.stopped }
     {
@@ -135,7 +134,7 @@ impl FileStore {
     /// is to be told to nobody. If it makes no call, it forgets the calls that were performed, once there are more than `MOST_CALLS`.
     ///
     /// # Errors
-    /// Those of `EngineStore::ask`; `Stopped` also if a call on the file has failed.
+    /// Those of `EngineStore::ask` but `Unsure`; `Stopped` also if a call on the file has failed. The store is as it was.
     pub fn ask(
         &mut self,
         alloc: Global,
@@ -148,30 +147,30 @@ impl FileStore {
         ensures store { self.new.engine.store ≡ self.old.engine.store }
         ensures names { self.new.engine.names ≡ self.old.engine.names }
         ensures kept { 0 < self.new.file.waiting → self.new.file.kept ≡ self.old.file.kept }
-        ensures not_asked { IfErr result (λ e. e ≢ asked.Unsure → self.new ≡ self.old) }
+        ensures not_asked { OnErr result (self.new ≡ self.old) }
         ensures failed { self.new.file.failed ≡ self.old.file.failed }
         ensures stopped { self.old.file.failed ≡ true → IfOk result (λ _. ⊥) }
         ensures refused { IsErrOf result asked.Stopped → IsStopped self.old }
         ensures full { IsErrOf result asked.Full → IsFullFor session.0 request self.old }
-        ensures unsure { IsErrOf result asked.Unsure → HasCommitted self.old.engine self.new.engine session.0 request × IsStopped self.new }
+        ensures sure { IsErrOf result asked.Unsure → ⊥ }
     {
         if self.failed {
             return Err(AskError::Stopped);
         }
         let before = self.store.disk().call_count();
-        let answered = match self.store.ask(alloc, session, request) {
-            Ok(reply) => Ok(reply),
-            Err(AskError::Unsure) => Err(AskError::Unsure),
+        let reply = match self.store.ask(alloc, session, request) {
+            Ok(reply) => reply,
+            Err(AskError::Unsure) => unreachable!(),
             Err(why) => return Err(why),
         };
         let waiting = self.store.disk().call_count() - before;
         if waiting > 0 {
             self.waiting = waiting;
-            return answered;
+            return Ok(reply);
         }
         self.kept = self.store.acknowledged();
         self.forget_calls(alloc);
-        answered
+        Ok(reply)
     }
 
     /// Forgets the calls that were performed, if there are more than `MOST_CALLS` of them, and frees the memory that they take. If that
@@ -194,15 +193,15 @@ impl FileStore {
     /// Ends the present epoch, and begins the next one. The calls that put its rows into the file wait then.
     ///
     /// # Errors
-    /// Those of `EngineStore::begin_epoch`; `Stopped` also if a call on the file has failed.
+    /// Those of `EngineStore::begin_epoch` but `DiskFault`; `Stopped` also if a call on the file has failed. The store is as it was.
     pub fn next_epoch(&mut self, alloc: Global, setup: Setup) -> Result<(), NextError>
         requires settled { self.old.file.waiting ≡ 0 }
         requires whole { IsWhole (setup_view setup) }
         ensures begun { OnOk result (IsStarted setup self.old.engine self.new.engine) }
         ensures refused { IfErr result (IsCause self.old.file.journal.layout self.old.engine setup.names.tables) }
-        ensures halted { IfErr result (λ e. (e ≡ next.Stopped) ⊎ (e ≡ next.DiskFault) → IsStopped self.new) }
-        ensures stays { IfErr result (λ e. e ≢ next.DiskFault → self.new ≡ self.old) }
-        ensures back { OnErr result (self.new.engine ≡ self.old.engine) }
+        ensures halted { IsErrOf result next.Stopped → IsStopped self.old }
+        ensures stays { OnErr result (self.new ≡ self.old) }
+        ensures sure { IsErrOf result next.DiskFault → ⊥ }
         ensures failed { self.new.file.failed ≡ self.old.file.failed }
         ensures stopped { self.old.file.failed ≡ true → IfOk result (λ _. ⊥) }
     {
@@ -210,15 +209,17 @@ impl FileStore {
             return Err(NextError::Stopped);
         }
         let before = self.store.disk().call_count();
-        let begun = self
+        match self
             .store
-            .begin_epoch(alloc, setup, PooledChains::new(alloc));
-        let kept = self.store.acknowledged();
-        let waiting = self.store.disk().call_count() - before;
-        self.kept = kept;
-        self.waiting = waiting;
-        match begun {
-            Ok(_past) => Ok(()),
+            .begin_epoch(alloc, setup, PooledChains::new(alloc))
+        {
+            Ok(_past) => {
+                let kept = self.store.acknowledged();
+                self.waiting = self.store.disk().call_count() - before;
+                self.kept = kept;
+                Ok(())
+            }
+            Err(NextError::DiskFault) => unreachable!(),
             Err(why) => Err(why),
         }
     }
@@ -233,6 +234,8 @@ fn without_calls(
     ensures acknowledged { result.0.journal.acknowledged ≡ store.journal.acknowledged }
     ensures stopped { result.0.journal.stopped ≡ store.journal.stopped }
     ensures bytes { contents result.0.journal.disk.log.steps ≡ contents store.journal.disk.log.steps }
+    ensures stop { result.0.journal.disk.counter.stop ≡ store.journal.disk.counter.stop }
+    ensures refusals { result.0.journal.disk.counter.refusals ≡ store.journal.disk.counter.refusals }
 {
     match store.renew(alloc) {
         Ok(store) => (store, ()),

@@ -8,7 +8,7 @@ ghost use Rattle.engine_store.specs.declared.open_error.OpenError.TheVariants as
 ghost use Rattle.tebaldi_c.specs.Asking.{IfOpen};
 ghost use Rattle.tebaldi_c.specs.Buffers.{IsTold};
 ghost use Rattle.tebaldi_c.specs.Images.{IsReopened, IsReopenedOf, IfFiled, IsFault, IsFaultOf, IsOfImage, file_capacity};
-ghost use Rattle.tebaldi_c.specs.Shelves.{calls, next_place};
+ghost use Rattle.tebaldi_c.specs.Shelves.{DoesNotFail, calls, next_place};
 ghost use Rattle.tebaldi_c.specs.Opening.{fault_line};
 
 use crate::contents::Contents;
@@ -141,6 +141,7 @@ impl FileStore {
     fn begun(store: EngineStore<PooledChains, MemDisk>, before: usize) -> FileStore
         requires acknowledged { store.journal.acknowledged ≡ 0 }
         requires events { store.engine.events ≡ [] }
+        requires disk { DoesNotFail store.journal.disk }
         ensures engine { result.engine ≡ store.engine }
         ensures journal { result.file.journal ≡ store.journal }
         ensures place { before ≤ length (calls result.file) → next_place result.file ≡ before }

@@ -39,7 +39,8 @@ pub const UNTOLD: u32 = 11;
 /// A call on the file has failed earlier.
 pub const STOPPED: u32 = 12;
 
-/// The file may have the commit or not.
+/// The file may have the commit or not. No call returns it: it is the status of `tebaldi_file_ask` and `tebaldi_file_next_epoch` if a call on
+/// the file fails.
 pub const UNSURE: u32 = 13;
 
 /// The commits of this epoch, or the rows, do not fit the file.

@@ -1,7 +1,8 @@
-use Rattle.std.proofs.Common.{[], false, sym, subst, List}
+use Rattle.std.proofs.Common.{[], sym, subst, List}
 use Rattle.record_journal.proofs.Moments.{started}
 use Rattle.crash_disk.specs.Disk.{LeavesOnly}
 use Rattle.record_journal.specs.Format.{Record}
+use Rattle.epoch_journal.specs.declared.current.Half.TheVariants.{Second}
 use Rattle.epoch_journal.specs.Layout.{layout}
 use Rattle.epoch_journal.specs.Halves.{HasRecords, IsAt, IsSettled}
 use Rattle.epoch_journal.specs.Read.{IsCurrently}
@@ -39,7 +40,7 @@ returns-in_ok-write_front-in-Blank-clause-settled g c label rs at only =
     let l = layout c.args.capacity label in
     let blank = subst (λ x. IsAt l rs x (d.seen c.args.disk.now)) c.in-Blank.is at in
     let after = c.in_ok-write_front-in-Blank.ensures.settled label blank.1 only in
-    (subst (λ (q : List Record). IsSettled l false q (d.seen c.write_front.new.disk)) (sym blank.0) after.0, after.1)
+    (subst (λ (q : List Record). IsSettled l Second q (d.seen c.write_front.new.disk)) (sym blank.0) after.0, after.1)
 
 pub returns-in-Half-clause-fronted : goal.returns-in-Half-clause-fronted
 returns-in-Half-clause-fronted g c is only = (subst (λ x. IsCurrently c.args.capacity x (g.D.Disk.seen c.args.disk.now)) c.in-Half.is is).1

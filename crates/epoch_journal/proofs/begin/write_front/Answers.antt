@@ -1,4 +1,4 @@
-use Rattle.std.proofs.Common.{[], refl, arith, ap, length}
+use Rattle.std.proofs.Common.{[], refl, arith, ap, length, ◌∙◌}
 use Rattle.crash_disk.proofs.Groups.{up_to_then}
 use Rattle.crash_disk.specs.Disk.{IsTorn}
 use Rattle.record_journal.proofs.Moments.{weaker}
@@ -51,8 +51,8 @@ returns-clause-settled g c label short only =
     let l = layout c.args.capacity label in
     let f = d.seen c.args.disk.now in
     let mid = d.seen c.write_safely.new.disk in (
-      fronted l [] f refl short mid c.args.front_bytes.now c.write_safely.ensures.torn c.requires.front (d.seen c.write_safely-2.new.disk) c.in_ok-write_safely.ensures.written
-          c.write_safely-2.ensures.torn c.in_ok-write_safely-2.ensures.written,
+      fronted l [] f refl short mid c.args.front_bytes.now c.write_safely.ensures.torn c.requires.front c.selector.result (d.seen c.write_safely-2.new.disk) c.selector.ensures
+          c.in_ok-write_safely.ensures.written c.write_safely-2.ensures.torn c.in_ok-write_safely-2.ensures.written,
       c.in_ok-write_safely-2.ensures.durable,
     )
 
@@ -67,3 +67,6 @@ returns-clause-calls g c =
     let both = up_to_then 2 1 2 (length c.args.front_bytes.now) _ _ _ c.write_safely.ensures.calls.up_to c.write_safely-2.ensures.calls.up_to in
     let twelve = ap length c.requires.front in
     record { made = omega (arith, both.made); written = omega (arith, both.written, twelve, length-front c.args.capacity); promise = both.promise }
+
+pub returns-clause-granted : goal.returns-clause-granted
+returns-clause-granted g c = c.in_ok-write_safely-2.ensures.refusals.granted ∙ c.in_ok-write_safely.ensures.refusals.granted

@@ -8,6 +8,7 @@ invariant-loop-filled g l = record {
   within : l.filled ≤ length l.buf;
   front : take l.filled l.buf ≡ take l.filled (drop l.at (g.D.Disk.seen l.fn.disk));
   quiet : IsQuiet g.D.Disk.seen g.D.Disk.may_leave g.D.Disk.moment g.D.Disk.left_since g.D.Disk.faults g.D.Disk.capacity l.fn.disk l.disk;
+  granted : g.D.Disk.refusals l.disk ≡ g.D.Disk.refusals l.fn.disk;
   calls : IsUpTo l.filled 0 (g.D.Disk.tally l.fn.disk) (g.D.Disk.tally l.disk);
 }
 

@@ -1,7 +1,7 @@
 use Rattle.std.proofs.Common.{◌≡◌, ◌<◌, ◌∙◌, ⊎_elim, sym, subst, arith, ℕ, length, take}
 use Rattle.epoch_journal.specs.Layout.{layout}
 use Rattle.epoch_journal.specs.Read.{IsDamaged}
-use Rattle.epoch_journal.proofs.Surveys.{thirteen, unsigned, other_capacity, fronted, first_of}
+use Rattle.epoch_journal.proofs.Surveys.{thirteen, unsigned, other_capacity, fronted, same_of}
 use Rattle.epoch_journal.proofs.reading.read_front.Goals as goal
 
 pub check_front-requires : goal.check_front-requires
@@ -18,7 +18,7 @@ returns-clause-current g c =
     let bytes = c.deref.result.now in
     let read : bytes ≡ take 13 file = c.deref.ensures.value ∙ c.in_ok-front.ensures.bytes in
     let long : 13 < length file = omega (arith, c.requires, c.if-len-le-FRONT_END.false) in
-    (long, fronted file bytes read long c.args.capacity c.in-Ok.ensures.current.0, sym (first_of file bytes read long) ∙ c.in-Ok.ensures.current.1)
+    (long, fronted file bytes read long c.args.capacity c.in-Ok.ensures.current.0, sym (same_of file bytes read long) ∙ c.in-Ok.ensures.current.1)
 
 pub returns-in-Err-clause-damaged : goal.returns-in-Err-clause-damaged
 returns-in-Err-clause-damaged g c label at is =

@@ -14,74 +14,74 @@ pub overflow_sub-len : goal.overflow_sub-len
 overflow_sub-len g c =
     let d = g.D.Disk in
     let file = d.seen c.args.disk.now in
-    let first = c.args.first in
+    let h = c.args.half in
     let l = layout c.args.capacity c.args.label.now in
     let cur = c.requires.current in
     let long : 13 < c.args.len = omega (arith, c.requires.len, cur.0) in
     let no : c.ends_before.result ≡ false = search rules in
-    let lt = inside c.args.capacity first c.base-half.result c.args.len c.base-half.ensures.value long (c.ends_before.ensures.no no) in
+    let lt = inside c.args.capacity h c.base-at.result c.args.len c.base-at.ensures.value long (c.ends_before.ensures.no no) in
     omega (arith, lt)
 
 pub check_label-requires-clause-within : goal.check_label-requires-clause-within
 check_label-requires-clause-within g c =
     let d = g.D.Disk in
     let file = d.seen c.args.disk.now in
-    let first = c.args.first in
+    let h = c.args.half in
     let l = layout c.args.capacity c.args.label.now in
     let cur = c.requires.current in
     let long : 13 < c.args.len = omega (arith, c.requires.len, cur.0) in
     let no : c.ends_before.result ≡ false = search rules in
-    let lt = inside c.args.capacity first c.base-half.result c.args.len c.base-half.ensures.value long (c.ends_before.ensures.no no) in
-    let most_is : c.min-most.result ≡ min (c.args.len - c.base-half.result) c.half_bytes.result = search rules in
+    let lt = inside c.args.capacity h c.base-at.result c.args.len c.base-at.ensures.value long (c.ends_before.ensures.no no) in
+    let most_is : c.min-most.result ≡ min (c.args.len - c.base-at.result) c.half_bytes.result = search rules in
     omega (arith, lt, most_is, c.requires.len)
 
 pub check_label-requires-clause-small : goal.check_label-requires-clause-small
 check_label-requires-clause-small g c =
     let d = g.D.Disk in
     let file = d.seen c.args.disk.now in
-    let first = c.args.first in
+    let h = c.args.half in
     let l = layout c.args.capacity c.args.label.now in
     let cur = c.requires.current in
     let long : 13 < c.args.len = omega (arith, c.requires.len, cur.0) in
     let no : c.ends_before.result ≡ false = search rules in
-    let lt = inside c.args.capacity first c.base-half.result c.args.len c.base-half.ensures.value long (c.ends_before.ensures.no no) in
-    let most_is : c.min-most.result ≡ min (c.args.len - c.base-half.result) c.half_bytes.result = search rules in
-    omega (arith, most_is, c.base-half.ensures.small, c.half_bytes.ensures.few)
+    let lt = inside c.args.capacity h c.base-at.result c.args.len c.base-at.ensures.value long (c.ends_before.ensures.no no) in
+    let most_is : c.min-most.result ≡ min (c.args.len - c.base-at.result) c.half_bytes.result = search rules in
+    omega (arith, most_is, c.base-at.ensures.small, c.half_bytes.ensures.few)
 
 pub returns-in-Err-clause-other_label : goal.returns-in-Err-clause-other_label
 returns-in-Err-clause-other_label g c is =
     let d = g.D.Disk in
     let file = d.seen c.args.disk.now in
-    let first = c.args.first in
+    let h = c.args.half in
     let l = layout c.args.capacity c.args.label.now in
     let cur = c.requires.current in
     let long : 13 < c.args.len = omega (arith, c.requires.len, cur.0) in
     let no : c.ends_before.result ≡ false = search rules in
-    let lt = inside c.args.capacity first c.base-half.result c.args.len c.base-half.ensures.value long (c.ends_before.ensures.no no) in
-    let most_is : c.min-most.result ≡ min (c.args.len - c.base-half.result) c.half_bytes.result = search rules in
-    let base = c.base-half.result in
-    let base_is = c.base-half.ensures.value in
+    let lt = inside c.args.capacity h c.base-at.result c.args.len c.base-at.ensures.value long (c.ends_before.ensures.no no) in
+    let most_is : c.min-most.result ≡ min (c.args.len - c.base-at.result) c.half_bytes.result = search rules in
+    let base = c.base-at.result in
+    let base_is = c.base-at.ensures.value in
     let in_side : base < length file = omega (arith, lt, c.requires.len) in
     let is_most : c.min-most.result ≡ min (length file - base) (half_size c.args.capacity) = omega (arith, most_is, c.half_bytes.ensures.value, c.requires.len) in
     let fits : length (header c.args.label.now) ≤ half_size c.args.capacity = omega (arith, length-header c.args.label.now, c.requires.fits.1) in
     let size = length (header c.args.label.now) in
     let n = min c.min-most.result size in
     let same : c.in-Err.error ≡ errors.OtherLabel = cc is in
-    other_label l file first cur.0 cur.1 cur.2 base c.min-most.result size n (take n (drop base file)) base_is in_side is_most refl fits refl refl (c.in-Err.ensures.other (ap Err same))
+    other_label l file h cur.0 cur.1 cur.2 base c.min-most.result size n (take n (drop base file)) base_is in_side is_most refl fits refl refl (c.in-Err.ensures.other (ap Err same))
 
 pub returns-in-Ok-read_on-clause-records : goal.returns-in-Ok-read_on-clause-records
 returns-in-Ok-read_on-clause-records g c =
     let d = g.D.Disk in
     let file = d.seen c.args.disk.now in
-    let first = c.args.first in
+    let h = c.args.half in
     let l = layout c.args.capacity c.args.label.now in
     let cur = c.requires.current in
     let long : 13 < c.args.len = omega (arith, c.requires.len, cur.0) in
     let no : c.ends_before.result ≡ false = search rules in
-    let lt = inside c.args.capacity first c.base-half.result c.args.len c.base-half.ensures.value long (c.ends_before.ensures.no no) in
-    let most_is : c.min-most.result ≡ min (c.args.len - c.base-half.result) c.half_bytes.result = search rules in
-    let base = c.base-half.result in
-    let base_is = c.base-half.ensures.value in
+    let lt = inside c.args.capacity h c.base-at.result c.args.len c.base-at.ensures.value long (c.ends_before.ensures.no no) in
+    let most_is : c.min-most.result ≡ min (c.args.len - c.base-at.result) c.half_bytes.result = search rules in
+    let base = c.base-at.result in
+    let base_is = c.base-at.ensures.value in
     let in_side : base < length file = omega (arith, lt, c.requires.len) in
     let is_most : c.min-most.result ≡ min (length file - base) (half_size c.args.capacity) = omega (arith, most_is, c.half_bytes.ensures.value, c.requires.len) in
     let fits : length (header c.args.label.now) ≤ half_size c.args.capacity = omega (arith, length-header c.args.label.now, c.requires.fits.1) in
@@ -95,22 +95,22 @@ returns-in-Ok-read_on-clause-records g c =
     let same = c.check_label.ensures.quiet.same in
     let rs = record_lists c.in-Ok-read_on.records.items in
     let whole = subst (λ (f : List ℕ). reading 0 at (take (until - at) (drop at f)) ≡ Whole rs) same c.in-Ok-read_on.ensures.whole in
-    read_as l file first cur.0 cur.1 cur.2 base c.min-most.result size n (take n (drop base file)) base_is in_side is_most size_is fits_too refl refl c.in-Ok.ensures.header.1 rs at until refl refl
+    read_as l file h cur.0 cur.1 cur.2 base c.min-most.result size n (take n (drop base file)) base_is in_side is_most size_is fits_too refl refl c.in-Ok.ensures.header.1 rs at until refl refl
     whole
 
 pub returns-in-Err-read_on-clause-damaged : goal.returns-in-Err-read_on-clause-damaged
 returns-in-Err-read_on-clause-damaged g c place is =
     let d = g.D.Disk in
     let file = d.seen c.args.disk.now in
-    let first = c.args.first in
+    let h = c.args.half in
     let l = layout c.args.capacity c.args.label.now in
     let cur = c.requires.current in
     let long : 13 < c.args.len = omega (arith, c.requires.len, cur.0) in
     let no : c.ends_before.result ≡ false = search rules in
-    let lt = inside c.args.capacity first c.base-half.result c.args.len c.base-half.ensures.value long (c.ends_before.ensures.no no) in
-    let most_is : c.min-most.result ≡ min (c.args.len - c.base-half.result) c.half_bytes.result = search rules in
-    let base = c.base-half.result in
-    let base_is = c.base-half.ensures.value in
+    let lt = inside c.args.capacity h c.base-at.result c.args.len c.base-at.ensures.value long (c.ends_before.ensures.no no) in
+    let most_is : c.min-most.result ≡ min (c.args.len - c.base-at.result) c.half_bytes.result = search rules in
+    let base = c.base-at.result in
+    let base_is = c.base-at.ensures.value in
     let in_side : base < length file = omega (arith, lt, c.requires.len) in
     let is_most : c.min-most.result ≡ min (length file - base) (half_size c.args.capacity) = omega (arith, most_is, c.half_bytes.ensures.value, c.requires.len) in
     let fits : length (header c.args.label.now) ≤ half_size c.args.capacity = omega (arith, length-header c.args.label.now, c.requires.fits.1) in
@@ -125,7 +125,7 @@ returns-in-Err-read_on-clause-damaged g c place is =
     let was : c.from.result ≡ errors.Damaged place = cc is in
     let e = damaged_as c.in-Err-read_on.error place (sym c.from.ensures ∙ was) in
     let bad = subst (λ (f : List ℕ). reading 0 at (take (until - at) (drop at f)) ≡ Damaged place) same (c.in-Err-read_on.ensures.damaged place (ap Err e)) in
-    read_damaged l file first cur.0 cur.1 cur.2 base c.min-most.result size n (take n (drop base file)) base_is in_side is_most size_is fits_too refl refl c.in-Ok.ensures.header.1 place at until refl
+    read_damaged l file h cur.0 cur.1 cur.2 base c.min-most.result size n (take n (drop base file)) base_is in_side is_most size_is fits_too refl refl c.in-Ok.ensures.header.1 place at until refl
     refl bad
 
 pub returns-in-Err-read_on-clause-other_label : goal.returns-in-Err-read_on-clause-other_label
@@ -158,15 +158,15 @@ pub returns-in-Ok-read_on-clause-calls : goal.returns-in-Ok-read_on-clause-calls
 returns-in-Ok-read_on-clause-calls g c =
     let d = g.D.Disk in
     let file = d.seen c.args.disk.now in
-    let first = c.args.first in
+    let h = c.args.half in
     let l = layout c.args.capacity c.args.label.now in
     let cur = c.requires.current in
     let long : 13 < c.args.len = omega (arith, c.requires.len, cur.0) in
     let no : c.ends_before.result ≡ false = search rules in
-    let lt = inside c.args.capacity first c.base-half.result c.args.len c.base-half.ensures.value long (c.ends_before.ensures.no no) in
-    let most_is : c.min-most.result ≡ min (c.args.len - c.base-half.result) c.half_bytes.result = search rules in
-    let base = c.base-half.result in
-    let base_is = c.base-half.ensures.value in
+    let lt = inside c.args.capacity h c.base-at.result c.args.len c.base-at.ensures.value long (c.ends_before.ensures.no no) in
+    let most_is : c.min-most.result ≡ min (c.args.len - c.base-at.result) c.half_bytes.result = search rules in
+    let base = c.base-at.result in
+    let base_is = c.base-at.ensures.value in
     let in_side : base < length file = omega (arith, lt, c.requires.len) in
     let is_most : c.min-most.result ≡ min (length file - base) (half_size c.args.capacity) = omega (arith, most_is, c.half_bytes.ensures.value, c.requires.len) in
     let fits : length (header c.args.label.now) ≤ half_size c.args.capacity = omega (arith, length-header c.args.label.now, c.requires.fits.1) in
@@ -190,15 +190,15 @@ pub returns-in-Err-read_on-clause-calls : goal.returns-in-Err-read_on-clause-cal
 returns-in-Err-read_on-clause-calls g c =
     let d = g.D.Disk in
     let file = d.seen c.args.disk.now in
-    let first = c.args.first in
+    let h = c.args.half in
     let l = layout c.args.capacity c.args.label.now in
     let cur = c.requires.current in
     let long : 13 < c.args.len = omega (arith, c.requires.len, cur.0) in
     let no : c.ends_before.result ≡ false = search rules in
-    let lt = inside c.args.capacity first c.base-half.result c.args.len c.base-half.ensures.value long (c.ends_before.ensures.no no) in
-    let most_is : c.min-most.result ≡ min (c.args.len - c.base-half.result) c.half_bytes.result = search rules in
-    let base = c.base-half.result in
-    let base_is = c.base-half.ensures.value in
+    let lt = inside c.args.capacity h c.base-at.result c.args.len c.base-at.ensures.value long (c.ends_before.ensures.no no) in
+    let most_is : c.min-most.result ≡ min (c.args.len - c.base-at.result) c.half_bytes.result = search rules in
+    let base = c.base-at.result in
+    let base_is = c.base-at.ensures.value in
     let in_side : base < length file = omega (arith, lt, c.requires.len) in
     let is_most : c.min-most.result ≡ min (length file - base) (half_size c.args.capacity) = omega (arith, most_is, c.half_bytes.ensures.value, c.requires.len) in
     let fits : length (header c.args.label.now) ≤ half_size c.args.capacity = omega (arith, length-header c.args.label.now, c.requires.fits.1) in
@@ -213,19 +213,19 @@ returns-in-Err-read_on-clause-calls g c =
     let both = up_to_then c.min-most.result 0 (2 * (until - at) + 5) 0 _ _ _ c.check_label.ensures.calls c.read_on.ensures.calls in
     record { made = omega (arith, both.made, is_most); written = omega (arith, both.written); promise = both.promise }
 
-pub overflow_add-half : goal.overflow_add-half
-overflow_add-half g c =
+pub overflow_add-at : goal.overflow_add-at
+overflow_add-at g c =
     let d = g.D.Disk in
     let file = d.seen c.args.disk.now in
-    let first = c.args.first in
+    let h = c.args.half in
     let l = layout c.args.capacity c.args.label.now in
     let cur = c.requires.current in
     let long : 13 < c.args.len = omega (arith, c.requires.len, cur.0) in
     let no : c.ends_before.result ≡ false = search rules in
-    let lt = inside c.args.capacity first c.base-half.result c.args.len c.base-half.ensures.value long (c.ends_before.ensures.no no) in
-    let most_is : c.min-most.result ≡ min (c.args.len - c.base-half.result) c.half_bytes.result = search rules in
-    let base = c.base-half.result in
-    let base_is = c.base-half.ensures.value in
+    let lt = inside c.args.capacity h c.base-at.result c.args.len c.base-at.ensures.value long (c.ends_before.ensures.no no) in
+    let most_is : c.min-most.result ≡ min (c.args.len - c.base-at.result) c.half_bytes.result = search rules in
+    let base = c.base-at.result in
+    let base_is = c.base-at.ensures.value in
     let in_side : base < length file = omega (arith, lt, c.requires.len) in
     let is_most : c.min-most.result ≡ min (length file - base) (half_size c.args.capacity) = omega (arith, most_is, c.half_bytes.ensures.value, c.requires.len) in
     let fits : length (header c.args.label.now) ≤ half_size c.args.capacity = omega (arith, length-header c.args.label.now, c.requires.fits.1) in
@@ -237,21 +237,21 @@ overflow_add-half g c =
     let until = base + c.min-most.result in
     let mid = c.check_label.new.disk in
     let same = c.check_label.ensures.quiet.same in
-    omega (arith, c.base-half.ensures.small, fits_too, small_half c.args.capacity)
+    omega (arith, c.base-at.ensures.small, fits_too, small_half c.args.capacity)
 
-pub overflow_add-half-2 : goal.overflow_add-half-2
-overflow_add-half-2 g c =
+pub overflow_add-at-2 : goal.overflow_add-at-2
+overflow_add-at-2 g c =
     let d = g.D.Disk in
     let file = d.seen c.args.disk.now in
-    let first = c.args.first in
+    let h = c.args.half in
     let l = layout c.args.capacity c.args.label.now in
     let cur = c.requires.current in
     let long : 13 < c.args.len = omega (arith, c.requires.len, cur.0) in
     let no : c.ends_before.result ≡ false = search rules in
-    let lt = inside c.args.capacity first c.base-half.result c.args.len c.base-half.ensures.value long (c.ends_before.ensures.no no) in
-    let most_is : c.min-most.result ≡ min (c.args.len - c.base-half.result) c.half_bytes.result = search rules in
-    let base = c.base-half.result in
-    let base_is = c.base-half.ensures.value in
+    let lt = inside c.args.capacity h c.base-at.result c.args.len c.base-at.ensures.value long (c.ends_before.ensures.no no) in
+    let most_is : c.min-most.result ≡ min (c.args.len - c.base-at.result) c.half_bytes.result = search rules in
+    let base = c.base-at.result in
+    let base_is = c.base-at.ensures.value in
     let in_side : base < length file = omega (arith, lt, c.requires.len) in
     let is_most : c.min-most.result ≡ min (length file - base) (half_size c.args.capacity) = omega (arith, most_is, c.half_bytes.ensures.value, c.requires.len) in
     let fits : length (header c.args.label.now) ≤ half_size c.args.capacity = omega (arith, length-header c.args.label.now, c.requires.fits.1) in
@@ -263,4 +263,4 @@ overflow_add-half-2 g c =
     let until = base + c.min-most.result in
     let mid = c.check_label.new.disk in
     let same = c.check_label.ensures.quiet.same in
-    omega (arith, c.base-half.ensures.small, is_most, small_half c.args.capacity)
+    omega (arith, c.base-at.ensures.small, is_most, small_half c.args.capacity)

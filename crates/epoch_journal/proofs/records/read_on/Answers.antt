@@ -31,6 +31,7 @@ loop-records-preserved g c =
       from = omega (arith, i.from);
       within = step_within rs file l.place until total i.within i.so_far r k is next;
       quiet = quiet_then d.seen d.may_leave d.moment d.left_since d.faults d.capacity c.args.disk.now l.disk c.read_next.new.disk i.quiet c.read_next.ensures.quiet;
+      granted = c.in_ok-record.ensures.granted ∙ i.granted;
       calls = record { made = omega (arith, both.made, count, i.from); written = omega (arith, both.written); promise = both.promise };
     }
 

@@ -13,6 +13,7 @@ invariant-loop-records g l = record {
   from : l.at ≤ l.place;
   within : l.place ≤ l.until;
   quiet : IsQuiet g.D.Disk.seen g.D.Disk.may_leave g.D.Disk.moment g.D.Disk.left_since g.D.Disk.faults g.D.Disk.capacity l.fn.disk l.disk;
+  granted : g.D.Disk.refusals l.disk ≡ g.D.Disk.refusals l.fn.disk;
   calls : IsUpTo (2 * (l.place - l.at)) 0 (g.D.Disk.tally l.fn.disk) (g.D.Disk.tally l.disk);
 }
 

@@ -1,8 +1,9 @@
-use Rattle.std.proofs.Common.{◌∙◌, subst}
+use Rattle.std.proofs.Common.{◌∙◌, subst, sym}
 use Rattle.commit_laws.proofs.Prefixes.{length-records}
 use Rattle.crash_disk.specs.Disk.{LeavesOnly}
 use Rattle.engine_core.specs.EngineModel.{EngineModel}
 use Rattle.tree_switch.specs.Courses.{IsCourse}
+use Rattle.epoch_journal.specs.Refusals.{IsReliable}
 use Rattle.epoch_store.specs.Stored.{Stored}
 use Rattle.epoch_store.specs.Told.{told}
 use Rattle.engine_store.specs.Lives.{IsLife}
@@ -35,3 +36,8 @@ returns-clause-any_moment g c =
     subst (λ (s : Stored EngineModel _). LeavesOnly d.moment d.left_since s.journal.disk now.journal.disk
     (TellsCommits s.journal.layout now.engine.engine.store now.engine.engine.events s.journal.acknowledged)) c.self.view_is
     c.ask.ensures.any_moment
+
+pub returns-clause-sure : goal.returns-clause-sure
+returns-clause-sure g c reliable is =
+    let d = g.D.Disk in
+    c.ask.ensures.sure (subst (λ (s : Stored EngineModel _). IsReliable d.tells_failures d.tally d.refusals s.journal.disk) (sym c.self.view_is) reliable) is

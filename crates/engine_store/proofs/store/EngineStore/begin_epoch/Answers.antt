@@ -1,7 +1,8 @@
-use Rattle.std.proofs.Common.{Result, Ok, IfOk, MatchResult, refl, sym, subst}
+use Rattle.std.proofs.Common.{Result, Ok, Err, ◌∙◌, ap, IfOk, MatchResult, refl, sym, subst}
 use Rattle.crash_disk.specs.Disk.{LeavesOnly}
 use Rattle.record_journal.proofs.Moments.{weaker}
 use Rattle.engine_core.specs.EngineModel.{EngineModel}
+use Rattle.epoch_journal.specs.Refusals.{IsReliable}
 use Rattle.epoch_store.specs.Stored.{Stored}
 use Rattle.engine_store.specs.Next.{IsCause, MayFollow}
 use Rattle.engine_store.specs.declared.error.NextError.TheVariants.{Stopped}
@@ -37,4 +38,13 @@ returns-clause-any_moment_next g c =
           w.in-Ok.ensures.rows)
           c.begin_next.ensures.any_moment)))
       | in-Err w ↦ subst (λ (r : Result _ _). IfOk r (λ _. LeavesOnly d.moment d.left_since c.args.self.now.journal.disk now.journal.disk Q)) (sym w.result-is) tt
+    ]
+
+pub returns-clause-sure : goal.returns-clause-sure
+returns-clause-sure g c reliable is =
+    let d = g.D.Disk in
+    let before = subst (λ (s : Stored EngineModel _). IsReliable d.tells_failures d.tally d.refusals s.journal.disk) (sym c.self.view_is) reliable in
+    elim c.match-begin_next.branch [
+      | in-Ok w ↦ cc (sym w.result-is ∙ is)
+      | in-Err w ↦ w.in-Err.ensures.sure before (sym w.result-is ∙ is)
     ]

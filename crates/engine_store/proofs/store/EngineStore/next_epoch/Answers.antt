@@ -1,8 +1,9 @@
-use Rattle.std.proofs.Common.{◌≡◌, List, ℕ, [], ◌∷◌, ◌++◌, refl, ap, subst, sym, ◌∙◌}
+use Rattle.std.proofs.Common.{◌≡◌, List, ℕ, [], ◌∷◌, ◌++◌, Err, refl, ap, subst, sym, ◌∙◌}
 use Rattle.engine_core.specs.EngineModel.{EngineModel}
 use Rattle.tree_switch.specs.Courses.{IsCourse}
 use Rattle.tree_switch.proofs.Starting.{moved_on}
 use Rattle.epoch_journal.specs.Layout.{Layout}
+use Rattle.epoch_journal.specs.Refusals.{IsReliable}
 use Rattle.epoch_store.specs.Stored.{Stored}
 use Rattle.engine_store.specs.Lives.{IsLife, epoch_of}
 use Rattle.engine_store.specs.Next.{IsCause}
@@ -44,3 +45,8 @@ returns-in-Err-clause-images_back g c =
     let count : now.journal.acknowledged ≡ was.journal.acknowledged = c.in-Err.ensures.back.1 ∙ ap (λ (s : Stored EngineModel _). s.journal.acknowledged) c.self.view_is in
     subst (λ (x : Layout × EngineModel × ℕ). (image : List ℕ) → d.may_leave now.journal.disk image → TellsCommits x.0 x.1.store x.1.events x.2 image) (λ i. (layout i, engine i, count i))
     c.begin_next.ensures.images
+
+pub returns-in-Err-clause-sure : goal.returns-in-Err-clause-sure
+returns-in-Err-clause-sure g c reliable is =
+    let d = g.D.Disk in
+    c.in-Err.ensures.sure (subst (λ (s : Stored EngineModel _). IsReliable d.tells_failures d.tally d.refusals s.journal.disk) (sym c.self.view_is) reliable) (ap Err is)

@@ -20,6 +20,6 @@ returns-in-Ok-clause-kept g c start all least kept =
       rows = run.rows;
       split = run.split;
       checkpoint = run.checkpoint;
-      resting = subst (λ (f : List ℕ). IsResting l was.place.first (checkpoint_of run.rows ∷ run.asked) was.place.end f) (sym c.in-Ok.ensures.seen) run.resting;
+      resting = subst (λ (f : List ℕ). IsResting l was.place.half (checkpoint_of run.rows ∷ run.asked) was.place.end f) (sym c.in-Ok.ensures.seen) run.resting;
       durable = c.in-Ok.ensures.durable;
     })

@@ -19,7 +19,7 @@ returns-in-Ok-clause-found g c start all least k has =
     let found = subst (λ (s : RecoveredState _). HasFound d.seen d.may_leave start all least k s) (sym c.self.view_is) has in
     let at = subst (λ (t : List ℕ). IsAt (layout was.capacity t) found.list was.current (d.seen was.disk)) (sym c.deref.ensures.value) found.at in
     let after = c.in-Ok.ensures.begun found.list at found.durable in
-    let resting = subst (λ (x : List ℕ × List (Cell × ℤ)). IsResting (layout was.capacity x.0) c.in-Ok.place.first (checkpoint_of x.1 ∷ []) c.in-Ok.place.end (d.seen c.begin_with.new.disk))
+    let resting = subst (λ (x : List ℕ × List (Cell × ℤ)). IsResting (layout was.capacity x.0) c.in-Ok.place.half (checkpoint_of x.1 ∷ []) c.in-Ok.place.end (d.seen c.begin_with.new.disk))
     (λ i. (c.deref.ensures.value i, c.deref-2.ensures.value i)) after.0 in
     begun_keeps d.seen d.may_leave start all least k _ found _ c.in-Ok.ensures.place.0 resting after.1
 
@@ -29,7 +29,7 @@ returns-in-Ok-clause-begins g c is only =
     let was = c.self.inside in
     let current = subst (λ (s : RecoveredState _). IsCurrently s.layout.capacity s.current (d.seen s.disk)) (sym c.self.view_is) is in
     let durable = subst (λ (s : RecoveredState _). Only (d.seen s.disk) (d.may_leave s.disk)) (sym c.self.view_is) only in
-    let resting = subst (λ (x : List ℕ × List (Cell × ℤ)). IsResting (layout was.capacity x.0) c.in-Ok.place.first (checkpoint_of x.1 ∷ []) c.in-Ok.place.end (d.seen c.begin_with.new.disk))
+    let resting = subst (λ (x : List ℕ × List (Cell × ℤ)). IsResting (layout was.capacity x.0) c.in-Ok.place.half (checkpoint_of x.1 ∷ []) c.in-Ok.place.end (d.seen c.begin_with.new.disk))
     (λ i. (c.deref.ensures.value i, c.deref-2.ensures.value i)) (c.in-Ok.ensures.resting current durable) in
     begun d.seen d.may_leave was.rows.items _ c.in-Ok.ensures.place.0 resting c.in-Ok.ensures.durable
 

@@ -1,7 +1,8 @@
-use Rattle.std.proofs.Common.{◌≡◌, ◌-◌, List, ℕ, None, refl, sym, subst, arith, ◌∙◌}
+use Rattle.std.proofs.Common.{◌≡◌, ◌-◌, List, ℕ, None, Result, IsOk, true≢false, refl, sym, subst, arith, ◌∙◌}
 use Rattle.teb_rules.specs.names.Rows.{row_of}
 use Rattle.crash_disk.specs.Disk.{LeavesOnly}
 use Rattle.epoch_journal.specs.Layout.{half_size}
+use Rattle.epoch_journal.specs.Refusals.{IsReliable}
 use Rattle.epoch_journal.specs.Telling.{TellsOn}
 use Rattle.epoch_journal.proofs.Sizes.{small_half}
 use Rattle.epoch_store.specs.Stored.{Stored}
@@ -59,3 +60,9 @@ pub returns-clause-room : goal.returns-clause-room
 returns-clause-room g c lacks =
     let e = g.E.Recorder in
     absurd (c.in-Ok.ensures.room (subst (λ (s : Stored _ _). e.lacks s.engine (half_size s.journal.layout.capacity - s.journal.end) c.args.session c.args.request) (sym c.self.view_is) lacks))
+
+pub returns-clause-sure : goal.returns-clause-sure
+returns-clause-sure g c reliable is =
+    let d = g.D.Disk in
+    let before = subst (λ (s : Stored _ _). IsReliable d.tells_failures d.tally d.refusals s.journal.disk) (sym c.self.view_is) reliable in
+    true≢false (sym (subst (λ (r : Result _ _). IsOk r) is (c.answered.ensures.sure before)))

@@ -1,7 +1,8 @@
-use Rattle.std.proofs.Common.{[], refl, sym, ap, subst, ◌∙◌}
+use Rattle.std.proofs.Common.{[], Err, refl, sym, ap, subst, ◌∙◌}
 use Rattle.teb_rules.specs.names.Rows.{row_of}
 use Rattle.crash_disk.specs.Disk.{LeavesOnly}
 use Rattle.record_journal.specs.Journal.{after_records}
+use Rattle.epoch_journal.specs.Refusals.{IsReliable}
 use Rattle.epoch_journal.specs.Telling.{TellsOn}
 use Rattle.epoch_store.specs.Stored.{Stored}
 use Rattle.epoch_store.proofs.Answering.{keeps_same}
@@ -68,3 +69,8 @@ returns-in-Ok-clause-images g c =
     (keeps_same d.seen d.may_leave (e.store c.args.next) (e.store c.replace.new.dest) [] (e.records c.replace.new.dest) 0 c.begin_with.new.journal.acknowledged c.begin_with.new.journal
     (ap e.store c.replace.ensures.after) (ap e.records c.replace.ensures.after ∙ c.requires.none) c.in-Ok.ensures.ok.1
     (c.in-Ok.ensures.begins (row_of (e.store was.engine).rows) (e.records was.engine) was.journal.acknowledged c.self.invariant)).each
+
+pub returns-in-Err-clause-sure : goal.returns-in-Err-clause-sure
+returns-in-Err-clause-sure g c reliable is =
+    let d = g.D.Disk in
+    c.in-Err.ensures.sure (subst (λ (s : Stored _ _). IsReliable d.tells_failures d.tally d.refusals s.journal.disk) (sym c.self.view_is) reliable) (ap Err is)

@@ -1,9 +1,10 @@
-use Rattle.std.proofs.Common.{rules, ◌-◌, ◌<◌, ℕ, sym, ◌∙◌, ap, subst, arith}
+use Rattle.std.proofs.Common.{rules, ◌-◌, ◌<◌, ℕ, Err, sym, ◌∙◌, ap, subst, arith}
+use Rattle.crash_disk.specs.Calls.{Promise}
 use Rattle.crash_disk.specs.Disk.{LeavesOnly}
 use Rattle.epoch_journal.specs.Layout.{Layout}
 use Rattle.engine_store.specs.Telling.{TellsCommits}
 use Rattle.tebaldi_c.specs.Shelves.{Filed}
-use Rattle.tebaldi_c.proofs.Files.{clock, images, none_waits, moved}
+use Rattle.tebaldi_c.proofs.Files.{clock, images, none_waits, moved, reliable}
 use Rattle.tebaldi_c.proofs.filed.FileStore.ask.Goals as goal
 
 pub invariant_of-self-then-waiting-gt0 : goal.invariant_of-self-then-waiting-gt0
@@ -23,6 +24,7 @@ invariant_of-self-then-waiting-gt0 c =
     (λ i. (sym c.ask.ensures.layout i, sym settled.1 i)) c.ask.ensures.any_moment)
     (λ none. absurd (omega (arith, none, some)))
     c.ask.ensures.all
+    (record { no_stop = ap (λ (p : Promise). p.stop) c.ask.ensures.promise ∙ c.self.invariant.disk.no_stop; granted = c.ask.ensures.memory ∙ c.self.invariant.disk.granted })
 
 pub invariant_of-self-2 : goal.invariant_of-self-2
 invariant_of-self-2 c =
@@ -32,3 +34,7 @@ invariant_of-self-2 c =
     none_waits new.engine
     (record { journal = new.journal; waiting = s.waiting; opened = s.opened; kept = c.acknowledged-self-inside.result; failed = s.failed })
     zero (c.self.invariant.settled zero).0 c.acknowledged-self-inside.ensures c.disk-2.ensures.images c.ask.ensures.all
+    (record { no_stop = ap (λ (p : Promise). p.stop) c.ask.ensures.promise ∙ c.self.invariant.disk.no_stop; granted = c.ask.ensures.memory ∙ c.self.invariant.disk.granted })
+
+pub unreachable-requires : goal.unreachable-requires
+unreachable-requires c = c.in-Err-Unsure.ensures.sure (reliable c.self.inside.store.journal.disk c.self.invariant.disk) (ap Err c.in-Err-Unsure.field-0-is)

@@ -8,4 +8,4 @@ invariant_of-result c =
     let count = c.call_count.ensures ∙ ap clock c.disk.ensures.disk in
     begins c.args.store.engine
     (record { journal = c.args.store.journal; waiting = w; opened = nat_eq w 0; kept = 0; failed = false })
-    (omega (arith, c.saturating_sub-waiting.ensures, count)) (is_zero w) (λ is. ap (λ (n : ℕ). nat_eq n 0) is) refl c.requires.acknowledged c.requires.events c.disk.ensures.images
+    (omega (arith, c.saturating_sub-waiting.ensures, count)) (is_zero w) (λ is. ap (λ (n : ℕ). nat_eq n 0) is) refl c.requires.acknowledged c.requires.events c.disk.ensures.images c.requires.disk

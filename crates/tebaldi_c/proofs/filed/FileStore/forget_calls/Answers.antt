@@ -14,5 +14,8 @@ invariant_of-self c =
     let engine : new.engine ≡ s.store.engine = search rules in
     let count : new.journal.acknowledged ≡ s.store.journal.acknowledged = search rules in
     let stopped : new.journal.stopped ≡ s.store.journal.stopped = search rules in
+    let stop : new.journal.disk.counter.stop ≡ s.store.journal.disk.counter.stop = search rules in
+    let refusals : new.journal.disk.counter.refusals ≡ s.store.journal.disk.counter.refusals = search rules in
     none_waits new.engine (record { journal = new.journal; waiting = s.waiting; opened = s.opened; kept = s.kept; failed = s.failed }) zero settled.0 (settled.1 ∙ sym count)
     c.disk-then-call_count-gt-MOST_CALLS.ensures.images (λ runs. count ∙ c.self.invariant.all (sym stopped ∙ runs) ∙ ap (λ (e : EngineModel). commit_count e.events) (sym engine))
+    (record { no_stop = stop ∙ c.self.invariant.disk.no_stop; granted = refusals ∙ c.self.invariant.disk.granted })

@@ -1,4 +1,5 @@
-use Rattle.std.proofs.Common.{◌∙◌, arith}
+use Rattle.std.proofs.Common.{◌∙◌, ap, arith}
+use Rattle.crash_disk.specs.Calls.{Promise}
 use Rattle.tebaldi_c.proofs.Reopened.{refused, reopened}
 use Rattle.tebaldi_c.proofs.filed.FileStore.open.Goals as goal
 
@@ -17,3 +18,9 @@ returns-in-Err-clause-refused c =
     let r = c.in-Err.ensures.refused in
     refused c.args.setup c.args.image.now _ _ c.in-Err.back.why (c.in_ok-disk.ensures.seen ∙ c.in_ok-bytes.ensures.items) c.in_ok-disk.ensures.capacity
     r.damaged r.other_capacity r.other_tables r.full
+
+pub begun-requires-clause-disk : goal.begun-requires-clause-disk
+begun-requires-clause-disk c = record {
+  no_stop = ap (λ (p : Promise). p.stop) c.in-Ok.ensures.calls.promise ∙ c.in_ok-disk.ensures.stop;
+  granted = c.in-Ok.ensures.granted ∙ c.in_ok-disk.ensures.refusals;
+}

@@ -16,4 +16,4 @@ invariant_of-self-2 c =
     let s = c.self.inside in
     none_waits s.store.engine
     (record { journal = s.store.journal; waiting = 0; opened = true; kept = c.acknowledged-kept.result; failed = s.failed })
-    refl refl c.acknowledged-kept.ensures c.disk.ensures.images c.self.invariant.all
+    refl refl c.acknowledged-kept.ensures c.disk.ensures.images c.self.invariant.all c.self.invariant.disk
