@@ -1,6 +1,6 @@
 //! A store with one journal as a server.
 
-ghost use Rattle.std.specs.Prelude.{◌≡◌, true, IsErrOf};
+ghost use Rattle.std.specs.Prelude.{◌≡◌, true, false, IsErrOf};
 ghost use Rattle.teb_rules.specs.declared.names.Reply.{Reply as TheReply};
 ghost use Rattle.teb_rules.specs.declared.names.Reply.TheVariants as replies;
 ghost use Rattle.teb_rules.specs.Answer.{answer};
@@ -46,6 +46,7 @@ impl<C: Chains, D: Disk> Server for DurableServer<C, D> {
         ensures unsure { (r : TheReply) → IsErrOf result (failures.Unsure r) → r ≡ replies.Committed }
         ensures stopped { IsErrOf result (failures.Unasked faults.Stopped) → self.old.durable.stopped ≡ true }
         ensures stays { self.old.durable.stopped ≡ true → IsErrOf result (failures.Unasked faults.Stopped) }
+        ensures stops { self.new.durable.stopped ≡ true → self.old.durable.stopped ≡ false → IsErrOf result (failures.Unsure replies.Committed) }
         ensures full { IsErrOf result (failures.Unasked faults.Full) → HasNoRoom D.capacity self.old.durable session request }
     {
         match self.durable.ask(alloc, session, request) {

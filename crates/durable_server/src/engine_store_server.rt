@@ -1,6 +1,6 @@
 //! A store in epochs as a server.
 
-ghost use Rattle.std.specs.Prelude.{◌≡◌, ◌-◌, true, IsErrOf};
+ghost use Rattle.std.specs.Prelude.{◌≡◌, ◌-◌, true, false, IsErrOf};
 ghost use Rattle.teb_rules.specs.declared.names.Reply.{Reply as TheReply};
 ghost use Rattle.teb_rules.specs.declared.names.Reply.TheVariants as replies;
 ghost use Rattle.teb_rules.specs.Answer.{answer};
@@ -47,6 +47,7 @@ impl<C: Chains, D: Disk> Server for EngineStoreServer<C, D> {
         ensures unsure { (r : TheReply) → IsErrOf result (failures.Unsure r) → r ≡ replies.Committed }
         ensures stopped { IsErrOf result (failures.Unasked faults.Stopped) → self.old.store.journal.stopped ≡ true }
         ensures stays { self.old.store.journal.stopped ≡ true → IsErrOf result (failures.Unasked faults.Stopped) }
+        ensures stops { self.new.store.journal.stopped ≡ true → self.old.store.journal.stopped ≡ false → IsErrOf result (failures.Unsure replies.Committed) }
         ensures full { IsErrOf result (failures.Unasked faults.Full)
             → IsFull self.old.store.engine.events (half_size self.old.store.journal.layout.capacity - self.old.store.journal.end) session request }
     {

@@ -35,7 +35,7 @@ const ATTEMPTS: u32 = 10_000;
 
 /// Why a transfer goes no further.
 #[derive(Debug, Drop)]
-pub enum Stopped {
+pub enum TransferError {
     /// The store has aborted the transaction. It may start over.
     Aborted,
     /// The transaction does not fit this epoch. It may start over once it is ended.
@@ -88,14 +88,14 @@ fn move_money<S: EpochServer, R: Wait + Clock>(
     alloc: Global,
     store: &Store<S>,
     session: &mut StoreSession<S>,
-) -> Result<i64, Stopped>
+) -> Result<i64, TransferError>
     requires { IsSessionOf store.now session.old }
     ensures { IsSessionOf store.now session.new × (session.new.session ≡ session.old.session) }
 {
     for _ in 0..ATTEMPTS {
         match transfer(rt, alloc, store, session) {
-            Err(Stopped::Aborted) => pause(rt),
-            Err(Stopped::Full) => {
+            Err(TransferError::Aborted) => pause(rt),
+            Err(TransferError::Full) => {
                 let _ended = ask(rt, alloc, store, session, Request::End);
                 pause(rt);
             }
@@ -106,7 +106,7 @@ fn move_money<S: EpochServer, R: Wait + Clock>(
             made => return made,
         }
     }
-    Err(Stopped::Aborted)
+    Err(TransferError::Aborted)
 }
 
 /// One transaction: 1 from an account to another, and the number of the transfer. An `Err` other than `Aborted` leaves it open.
@@ -115,7 +115,7 @@ fn transfer<S: EpochServer, R: Wait + Clock>(
     alloc: Global,
     store: &Store<S>,
     session: &mut StoreSession<S>,
-) -> Result<i64, Stopped>
+) -> Result<i64, TransferError>
     requires { IsSessionOf store.now session.old }
     ensures { IsSessionOf store.now session.new × (session.new.session ≡ session.old.session) }
 {
@@ -145,7 +145,7 @@ fn add<S: EpochServer, R: Wait + Clock>(
     session: &mut StoreSession<S>,
     account: Cell,
     amount: i64,
-) -> Result<i64, Stopped>
+) -> Result<i64, TransferError>
     requires { IsSessionOf store.now session.old }
     ensures { IsSessionOf store.now session.new × (session.new.session ≡ session.old.session) }
 {
@@ -161,7 +161,7 @@ fn ask<S: EpochServer, R: Wait + Clock>(
     store: &Store<S>,
     session: &mut StoreSession<S>,
     request: Request,
-) -> Result<i64, Stopped>
+) -> Result<i64, TransferError>
     requires { IsSessionOf store.now session.old }
     ensures { IsSessionOf store.now session.new × (session.new.session ≡ session.old.session) }
 {
@@ -169,14 +169,14 @@ fn ask<S: EpochServer, R: Wait + Clock>(
         match session.ask(store, rt, alloc, request) {
             Ok(StoreReply::Later | StoreReply::Reply(Reply::Again { .. })) => pause(rt),
             Ok(StoreReply::Ended(_) | StoreReply::Reply(Reply::Aborted(_))) => {
-                return Err(Stopped::Aborted);
+                return Err(TransferError::Aborted);
             }
             Ok(StoreReply::Reply(Reply::Refused(Refusal::Full)))
-            | Err(StoreError::Unasked(Fault::Full)) => return Err(Stopped::Full),
-            Ok(StoreReply::Reply(Reply::Refused(why))) => return Err(Stopped::Refused(why)),
+            | Err(StoreError::Unasked(Fault::Full)) => return Err(TransferError::Full),
+            Ok(StoreReply::Reply(Reply::Refused(why))) => return Err(TransferError::Refused(why)),
             Ok(StoreReply::Reply(Reply::Value(value))) => return Ok(value.unwrap_or(0)),
             Ok(StoreReply::Reply(_)) => return Ok(0),
-            Err(why) => return Err(Stopped::NoAnswer(why)),
+            Err(why) => return Err(TransferError::NoAnswer(why)),
         }
     }
     unreachable!()

@@ -5,7 +5,7 @@ use Rattle.teb_rules.specs.declared.names.Request.{Request}
 use Rattle.teb_rules.specs.declared.names.Session.{Session}
 use Rattle.turn_lock.proofs.Lists.{All_map, All_none, All_cons}
 use Rattle.shared_store.specs.declared.entry.LifeEntry.{LifeEntry}
-use Rattle.shared_store.specs.declared.entry.LifeEntry.TheVariants.{Asked, Taken, Turned}
+use Rattle.shared_store.specs.declared.entry.LifeEntry.TheVariants.{Asked, CommitsTaken, EpochEnded}
 use Rattle.shared_store.specs.declared.entry.TheConstants.{LOG_SEAT}
 use Rattle.shared_store.specs.Ending.{AddsNoCalls}
 use Rattle.shared_store.specs.declared.error.Fault.{Fault}
@@ -13,8 +13,8 @@ use Rattle.shared_store.specs.declared.answer.Answer.{Answer}
 use Rattle.shared_store.specs.declared.answer.Answer.TheVariants as answer
 use Rattle.shared_store.specs.declared.reply.StoreReply.TheVariants.{Reply, Later, Ended}
 use Rattle.shared_store.specs.Stages.{Stage}
-use Rattle.shared_store.specs.Lives.{IsMarkOf, calls_of, owner_of, taken_of}
-use Rattle.shared_store.specs.Turning.{Adds, AddsAsked, AddsCall, AddsMarks, AddsResult, GrowsBy}
+use Rattle.shared_store.specs.Lives.{IsForOther, calls_of, owner_of, taken_of}
+use Rattle.shared_store.specs.Turning.{Adds, AddsAsked, AddsCall, AddsForOthers, AddsResult, GrowsBy}
 use Rattle.shared_store.proofs.Calls.{calls_append, for_other, none_calls}
 use Rattle.shared_store.proofs.Courses.{stop_behind, taken_behind}
 
@@ -22,25 +22,25 @@ all_append : (P : LifeEntry → Type 0) (xs ys : List LifeEntry) → All P xs �
 all_append P [] ys a b = b
 all_append P (x ∷ xs) ys a b = All_cons P x (xs ++ ys) (a 0 x (omega arith)) (all_append P xs ys (λ k d l. a (suc k) d (omega arith)) b)
 
-pub adds_nothing : (n : ℕ) (old new : List LifeEntry) → new ≡ old → AddsMarks n old new
-adds_nothing n old new e = record { marks = []; is = e ∙ sym (append-nil old); mine = All_none (IsMarkOf n) }
+pub adds_nothing : (n : ℕ) (old new : List LifeEntry) → new ≡ old → AddsForOthers n old new
+adds_nothing n old new e = record { more = []; is = e ∙ sym (append-nil old); mine = All_none (IsForOther n) }
 
-pub adds_one : (n : ℕ) (e : LifeEntry) (old new : List LifeEntry) → IsMarkOf n e → new ≡ old ++ e ∷ [] → AddsMarks n old new
-adds_one n e old new m is = record { marks = e ∷ []; is = is; mine = All_cons (IsMarkOf n) e [] m (All_none (IsMarkOf n)) }
+pub adds_one : (n : ℕ) (e : LifeEntry) (old new : List LifeEntry) → IsForOther n e → new ≡ old ++ e ∷ [] → AddsForOthers n old new
+adds_one n e old new m is = record { more = e ∷ []; is = is; mine = All_cons (IsForOther n) e [] m (All_none (IsForOther n)) }
 
-pub adds_more : (n : ℕ) (old mid new : List LifeEntry) → AddsMarks n old mid → AddsMarks n mid new → AddsMarks n old new
+pub adds_more : (n : ℕ) (old mid new : List LifeEntry) → AddsForOthers n old mid → AddsForOthers n mid new → AddsForOthers n old new
 adds_more n old mid new p q = record {
-  marks = p.marks ++ q.marks;
-  is = q.is ∙ (ap (λ (l : List LifeEntry). l ++ q.marks) p.is ∙ append_assoc old p.marks q.marks);
-  mine = all_append (IsMarkOf n) p.marks q.marks p.mine q.mine;
+  more = p.more ++ q.more;
+  is = q.is ∙ (ap (λ (l : List LifeEntry). l ++ q.more) p.is ∙ append_assoc old p.more q.more);
+  mine = all_append (IsForOther n) p.more q.more p.mine q.mine;
 }
 
--- a request that the session makes for another session adds only marks
-pub adds_for_other : (first : Stage) (by s : Session) (q : Request) (o : Result TheReply Fault) (old new : List LifeEntry) → s.0 ≢ by.0 → AddsResult first by s q o old new → AddsMarks by.0 old new
+-- a request that the session makes for another session adds only an entry for it
+pub adds_for_other : (first : Stage) (by s : Session) (q : Request) (o : Result TheReply Fault) (old new : List LifeEntry) → s.0 ≢ by.0 → AddsResult first by s q o old new → AddsForOthers by.0 old new
 adds_for_other first by s q (Ok r) old new o a = adds_one by.0 (Asked by s q a.short) old new (for_other by s q a.short o) a.is
 adds_for_other first by s q (Err f) old new o a = adds_nothing by.0 old new a
 
-module _ (first : Stage) (s : Session) (q : Request) (old mid new : List LifeEntry) (m : AddsMarks s.0 old mid) (o : Result TheReply Fault) (a : AddsResult first s s q o mid new) where
+module _ (first : Stage) (s : Session) (q : Request) (old mid new : List LifeEntry) (m : AddsForOthers s.0 old mid) (o : Result TheReply Fault) (a : AddsResult first s s q o mid new) where
   adds_call : (r : TheReply) → AddsAsked first s s q r mid new → AddsCall first s q r old new
   adds_call r a = record { before = mid; short = a.short; stage = a.stage; goes_on = m; is = a.is; leads = a.leads; reply = a.reply; short_of = a.short_of }
 
@@ -48,26 +48,26 @@ module _ (first : Stage) (s : Session) (q : Request) (old mid new : List LifeEnt
   pub adds_ok : (r : TheReply) (n : ℕ) → o ≡ Ok r → Adds first s q (answer.Reply (Reply r) n) old new
   adds_ok r n e = adds_call r (subst (λ (p : Result TheReply Fault). AddsResult first s s q p mid new) e a)
 
-  pub adds_err : (f : Fault) → o ≡ Err f → AddsMarks s.0 old new
+  pub adds_err : (f : Fault) → o ≡ Err f → AddsForOthers s.0 old new
   adds_err f e = adds_more s.0 old mid new m (adds_nothing s.0 mid new (subst (λ (p : Result TheReply Fault). AddsResult first s s q p mid new) e a))
 
-pub marks_grow : (n : ℕ) (old new : List LifeEntry) → AddsMarks n old new → GrowsBy n old new
-marks_grow n old new m = record { more = m.marks; is = m.is; mine = All_map (IsMarkOf n) (λ (e : LifeEntry). owner_of e ≡ n) m.marks (λ e p. p.0) m.mine }
+pub for_others_grow : (n : ℕ) (old new : List LifeEntry) → AddsForOthers n old new → GrowsBy n old new
+for_others_grow n old new m = record { more = m.more; is = m.is; mine = All_map (IsForOther n) (λ (e : LifeEntry). owner_of e ≡ n) m.more (λ e p. p.0) m.mine }
 
 call_grows : (first : Stage) (s : Session) (q : Request) (r : TheReply) (old new : List LifeEntry) → AddsCall first s q r old new → GrowsBy s.0 old new
 call_grows first s q r old new a = let P : LifeEntry → Type 0 = λ (e : LifeEntry). owner_of e ≡ s.0 in let call : LifeEntry = Asked s s q a.short in record {
-  more = a.goes_on.marks ++ call ∷ [];
-  is = a.is ∙ (ap (λ (l : List LifeEntry). l ++ call ∷ []) a.goes_on.is ∙ append_assoc old a.goes_on.marks (call ∷ []));
-  mine = all_append P a.goes_on.marks (call ∷ []) (All_map (IsMarkOf s.0) P a.goes_on.marks (λ e p. p.0) a.goes_on.mine) (All_cons P call [] refl (All_none P));
+  more = a.goes_on.more ++ call ∷ [];
+  is = a.is ∙ (ap (λ (l : List LifeEntry). l ++ call ∷ []) a.goes_on.is ∙ append_assoc old a.goes_on.more (call ∷ []));
+  mine = all_append P a.goes_on.more (call ∷ []) (All_map (IsForOther s.0) P a.goes_on.more (λ e p. p.0) a.goes_on.mine) (All_cons P call [] refl (All_none P));
 }
 
 -- every added entry is the session's own
 pub adds_grow : (first : Stage) (s : Session) (q : Request) (r : Answer) (old new : List LifeEntry) → Adds first s q r old new → GrowsBy s.0 old new
 adds_grow first s q (answer.Reply (Reply r) n) old new a = call_grows first s q r old new a
-adds_grow first s q (answer.Reply Later n) old new a = marks_grow s.0 old new a
-adds_grow first s q (answer.Reply (Ended r) n) old new a = marks_grow s.0 old new a
-adds_grow first s q answer.Ending old new a = marks_grow s.0 old new a
-adds_grow first s q (answer.Unasked f) old new a = marks_grow s.0 old new a
+adds_grow first s q (answer.Reply Later n) old new a = for_others_grow s.0 old new a
+adds_grow first s q (answer.Reply (Ended r) n) old new a = for_others_grow s.0 old new a
+adds_grow first s q answer.Drained old new a = for_others_grow s.0 old new a
+adds_grow first s q (answer.Unasked f) old new a = for_others_grow s.0 old new a
 
 pub grows_on : (n : ℕ) (old mid new : List LifeEntry) → GrowsBy n old mid → GrowsBy n mid new → GrowsBy n old new
 grows_on n old mid new p q = record {
@@ -85,21 +85,21 @@ grows_none n old = record { more = []; is = sym (append-nil old); mine = All_non
 pub no_calls : (old : List LifeEntry) → AddsNoCalls old old
 no_calls old = record { more = []; is = sym (append-nil old); calls = λ n. refl; owned = All_none (λ (e : LifeEntry). owner_of e ≡ LOG_SEAT); runs = refl }
 
-pub no_calls_taken : (old new : List LifeEntry) → new ≡ old ++ Taken ∷ [] → AddsNoCalls old new
+pub no_calls_taken : (old new : List LifeEntry) → new ≡ old ++ CommitsTaken ∷ [] → AddsNoCalls old new
 no_calls_taken old new is = record {
-  more = Taken ∷ [];
+  more = CommitsTaken ∷ [];
   is = is;
   calls = λ n. refl;
-  owned = All_cons (λ (e : LifeEntry). owner_of e ≡ LOG_SEAT) Taken [] refl (All_none (λ (e : LifeEntry). owner_of e ≡ LOG_SEAT));
+  owned = All_cons (λ (e : LifeEntry). owner_of e ≡ LOG_SEAT) CommitsTaken [] refl (All_none (λ (e : LifeEntry). owner_of e ≡ LOG_SEAT));
   runs = refl;
 }
 
-pub no_calls_turned : (old new : List LifeEntry) → new ≡ old ++ Turned ∷ [] → AddsNoCalls old new
-no_calls_turned old new is = record {
-  more = Turned ∷ [];
+pub no_calls_epoch_ended : (old new : List LifeEntry) → new ≡ old ++ EpochEnded ∷ [] → AddsNoCalls old new
+no_calls_epoch_ended old new is = record {
+  more = EpochEnded ∷ [];
   is = is;
   calls = λ n. refl;
-  owned = All_cons (λ (e : LifeEntry). owner_of e ≡ LOG_SEAT) Turned [] refl (All_none (λ (e : LifeEntry). owner_of e ≡ LOG_SEAT));
+  owned = All_cons (λ (e : LifeEntry). owner_of e ≡ LOG_SEAT) EpochEnded [] refl (All_none (λ (e : LifeEntry). owner_of e ≡ LOG_SEAT));
   runs = refl;
 }
 

@@ -8,8 +8,8 @@ use Rattle.teb_rules.specs.declared.names.Session.{Session}
 use Rattle.turn_lock.specs.declared.view.View.{View}
 use Rattle.turn_lock.specs.Seats.{view_of}
 use Rattle.shared_store.specs.declared.entry.LifeEntry.{LifeEntry}
-use Rattle.shared_store.specs.declared.error.Failure.{Failure}
-use Rattle.shared_store.specs.declared.error.Failure.TheVariants.{Unasked, Unsure}
+use Rattle.shared_store.specs.declared.error.AskError.{AskError}
+use Rattle.shared_store.specs.declared.error.AskError.TheVariants.{Unasked, Unsure}
 use Rattle.shared_store.specs.declared.error.Fault.{Fault}
 use Rattle.shared_store.specs.declared.reply.StoreReply.{StoreReply}
 use Rattle.shared_store.specs.declared.reply.StoreReply.TheVariants.{Reply, Later, Ended}
@@ -19,41 +19,41 @@ use Rattle.shared_store.specs.declared.session.TheConstants.{MOST_ASKS, MOST_TUR
 use Rattle.shared_store.specs.Known.{Knows}
 use Rattle.shared_store.specs.Stages.{Stage}
 use Rattle.shared_store.specs.Lives.{calls_of}
-use Rattle.shared_store.specs.Gaining.{Gains, SafeAt, SeesCall, SeesFree, SeesMarks, TakesTurns, is_commit_reply}
+use Rattle.shared_store.specs.Gaining.{Gains, SafeAt, SeesCall, SeesFree, SeesNoCall, TakesTurns, is_commit_reply}
 use Rattle.shared_store.specs.Sharing.{GoesOn, IsAnswered, IsSafe, IsUnasked, WasFree, seen}
 
 -- what a seat gains, by the result
 module _ (b : Stage) (s : Session) (q : Request) (v w : View LifeEntry Stage) where
-  abbrev pub GainsFor : Result StoreReply Failure → Type 0
+  abbrev pub GainsFor : Result StoreReply AskError → Type 0
   GainsFor r = Gains b s q r v w
 
-  pub gains_call : (o : Result StoreReply Failure) (a : StoreReply) (r : TheReply) → o ≡ Ok a → a ≡ Reply r → GainsFor o → SeesCall b s q r v w
+  pub gains_call : (o : Result StoreReply AskError) (a : StoreReply) (r : TheReply) → o ≡ Ok a → a ≡ Reply r → GainsFor o → SeesCall b s q r v w
   gains_call o a r e is f = subst GainsFor (e ∙ ap (λ (x : StoreReply). Ok x) is) f
 
-  put_off : (a : StoreReply) → ((r : TheReply) → a ≢ Reply r) → GainsFor (Ok a) → SeesMarks s.0 v w
-  put_off (Reply r) n f = absurd (n r refl)
-  put_off Later n f = f
-  put_off (Ended r) n f = f
+  no_reply : (a : StoreReply) → ((r : TheReply) → a ≢ Reply r) → GainsFor (Ok a) → SeesNoCall s.0 v w
+  no_reply (Reply r) n f = absurd (n r refl)
+  no_reply Later n f = f
+  no_reply (Ended r) n f = f
 
-  pub gains_put_off : (o : Result StoreReply Failure) (a : StoreReply) → o ≡ Ok a → ((r : TheReply) → a ≢ Reply r) → GainsFor o → SeesMarks s.0 v w
-  gains_put_off o a e n f = put_off a n (subst GainsFor e f)
+  pub gains_no_reply : (o : Result StoreReply AskError) (a : StoreReply) → o ≡ Ok a → ((r : TheReply) → a ≢ Reply r) → GainsFor o → SeesNoCall s.0 v w
+  gains_no_reply o a e n f = no_reply a n (subst GainsFor e f)
 
-  pub gains_unsure : (o : Result StoreReply Failure) → o ≡ Err Unsure → GainsFor o → SeesCall b s q Committed v w
+  pub gains_unsure : (o : Result StoreReply AskError) → o ≡ Err Unsure → GainsFor o → SeesCall b s q Committed v w
   gains_unsure o e f = subst GainsFor e f
 
-  pub gains_unasked : (o : Result StoreReply Failure) (t : Fault) → o ≡ Err (Unasked t) → GainsFor o → SeesMarks s.0 v w
+  pub gains_unasked : (o : Result StoreReply AskError) (t : Fault) → o ≡ Err (Unasked t) → GainsFor o → SeesNoCall s.0 v w
   gains_unasked o t e f = subst GainsFor e f
 
 -- what holds of a commit that was made
-pub safe_commit : (P : Type 0) (o : Result StoreReply Failure) (a : StoreReply) → o ≡ Ok a → a ≡ Reply Committed → IfOk o (λ x. IsTrue (is_commit_reply x) → P) → P
-safe_commit P o a e is h = (subst (λ (p : Result StoreReply Failure). IfOk p (λ x. IsTrue (is_commit_reply x) → P)) (e ∙ ap (λ (x : StoreReply). Ok x) is) h) refl
+pub safe_commit : (P : Type 0) (o : Result StoreReply AskError) (a : StoreReply) → o ≡ Ok a → a ≡ Reply Committed → IfOk o (λ x. IsTrue (is_commit_reply x) → P) → P
+safe_commit P o a e is h = (subst (λ (p : Result StoreReply AskError). IfOk p (λ x. IsTrue (is_commit_reply x) → P)) (e ∙ ap (λ (x : StoreReply). Ok x) is) h) refl
 
 module _ {V L B : Type 0} {g : Ghosts V L B} (b : Stage) (old new : StoreSession V L B g) (asks : new.asks ≡ old.asks + 1) (session : new.session ≡ old.session)
     (base : (view_of old.seat).base ≡ Some b) (n : ℕ) (t : TakesTurns n (view_of old.seat) (view_of new.seat)) where
   goes_on : (more : List LifeEntry) → seen new ≡ seen old ++ more → GoesOn b old new
   goes_on more is = record { asks = asks; more = more; is = is; legal = t.legal b (t.base ∙ base) }
 
-  pub unasked : SeesMarks old.session.0 (view_of old.seat) (view_of new.seat) → IsUnasked b old new
+  pub unasked : SeesNoCall old.session.0 (view_of old.seat) (view_of new.seat) → IsUnasked b old new
   unasked m = record {
     goes_on = goes_on m.more m.is;
     calls = ap (λ (s : Session). calls_of s.0 (seen new)) session ∙ m.calls;

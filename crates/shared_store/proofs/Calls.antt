@@ -8,8 +8,8 @@ use Rattle.short_reply.specs.declared.ShortReply.{ShortReply}
 use Rattle.turn_lock.specs.Counts.{times, same}
 use Rattle.turn_lock.proofs.Lists.{All_map}
 use Rattle.shared_store.specs.declared.entry.LifeEntry.{LifeEntry}
-use Rattle.shared_store.specs.declared.entry.LifeEntry.TheVariants.{Asked, Taken, Turned, Stopped}
-use Rattle.shared_store.specs.Lives.{IsMarkOf, calls_of, is_call_of, owner_of}
+use Rattle.shared_store.specs.declared.entry.LifeEntry.TheVariants.{Asked, CommitsTaken, EpochEnded, LogFailed}
+use Rattle.shared_store.specs.Lives.{IsForOther, calls_of, is_call_of, owner_of}
 
 pub calls_append : (n : ℕ) (xs ys : List LifeEntry) → calls_of n (xs ++ ys) ≡ calls_of n xs ++ calls_of n ys
 calls_append n xs ys = filter-append (is_call_of n) xs ys
@@ -18,18 +18,18 @@ pub calls_none : (n : ℕ) (es : List LifeEntry) → All (λ (e : LifeEntry). is
 calls_none n [] a = refl
 calls_none n (e ∷ es) a = ap (λ b. cond b (e ∷ calls_of n es) (calls_of n es)) (a 0 e (omega arith)) ∙ calls_none n es (λ k d l. a (suc k) d (omega arith))
 
--- marks are not calls
-pub marks_none : (n : ℕ) (es : List LifeEntry) → All (IsMarkOf n) es → calls_of n es ≡ []
-marks_none n es a = calls_none n es (All_map (IsMarkOf n) (λ (e : LifeEntry). is_call_of n e ≡ false) es (λ e m. m.1) a)
+-- entries for other sessions are not calls of the session
+pub for_others_none : (n : ℕ) (es : List LifeEntry) → All (IsForOther n) es → calls_of n es ≡ []
+for_others_none n es a = calls_none n es (All_map (IsForOther n) (λ (e : LifeEntry). is_call_of n e ≡ false) es (λ e m. m.1) a)
 
 is_other : (n o : ℕ) → times o (n ∷ []) ≡ 0 → o ≢ n
 is_other n o z is = let one : same o n ≡ 1 = ap (λ b. if b then 1 else 0) (eq-eqb o n is) in absurd (omega arith)
 
 no_call : (n : ℕ) (e : LifeEntry) → owner_of e ≢ n → is_call_of n e ≡ false
 no_call n (Asked by s q r) o = ap (λ (b : Bool). b && (s.0 == n)) (ne_eqb by.0 n o)
-no_call n Taken o = refl
-no_call n Turned o = refl
-no_call n Stopped o = refl
+no_call n CommitsTaken o = refl
+no_call n EpochEnded o = refl
+no_call n LogFailed o = refl
 
 all_others : (n : ℕ) (es : List LifeEntry) → All (λ (e : LifeEntry). times (owner_of e) (n ∷ []) ≡ 0) es → All (λ (e : LifeEntry). is_call_of n e ≡ false) es
 all_others n es a = All_map (λ (e : LifeEntry). times (owner_of e) (n ∷ []) ≡ 0) (λ (e : LifeEntry). is_call_of n e ≡ false) es (λ e z. no_call n e (is_other n (owner_of e) z)) a
@@ -48,8 +48,8 @@ and_no : (b : Bool) → b && false ≡ false
 and_no true = refl
 and_no false = refl
 
--- a request that a session makes for another session is a mark
-pub for_other : (by s : Session) (q : Request) (r : Option ShortReply) → s.0 ≢ by.0 → IsMarkOf by.0 (Asked by s q r)
+-- a request that a session makes for another session is an entry for another
+pub for_other : (by s : Session) (q : Request) (r : Option ShortReply) → s.0 ≢ by.0 → IsForOther by.0 (Asked by s q r)
 for_other by s q r o = (refl, ap (λ (b : Bool). (by.0 == by.0) && b) (ne_eqb s.0 by.0 o) ∙ and_no (by.0 == by.0))
 
 -- the calls in a list of one call

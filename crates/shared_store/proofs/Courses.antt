@@ -4,7 +4,7 @@ use Rattle.std.specs.List.{list_any}
 use Rattle.turn_lock.specs.Counts.{times}
 use Rattle.turn_lock.proofs.Counts.{same_yes}
 use Rattle.shared_store.specs.declared.entry.LifeEntry.{LifeEntry}
-use Rattle.shared_store.specs.declared.entry.LifeEntry.TheVariants.{Asked, Taken, Turned, Stopped}
+use Rattle.shared_store.specs.declared.entry.LifeEntry.TheVariants.{Asked, CommitsTaken, EpochEnded, LogFailed}
 use Rattle.shared_store.specs.declared.entry.TheConstants.{LOG_SEAT}
 use Rattle.shared_store.specs.Served.{Standing, IsBegun}
 use Rattle.shared_store.specs.Stages.{Stage}
@@ -20,10 +20,10 @@ begun_once x y z a b =
 
 step_once : (g h k : Stage) (e : LifeEntry) → Step g e h → Step g e k → h ≡ k
 step_once g h k (Asked by s q r) a b = a.next ∙ sym b.next
-step_once g h k Taken a b = a ∙ sym b
-step_once g h k Turned a b = let x = begun_once g.standing h.standing k.standing a.begun b.begun in
+step_once g h k CommitsTaken a b = a ∙ sym b
+step_once g h k EpochEnded a b = let x = begun_once g.standing h.standing k.standing a.begun b.begun in
     λ i. record { standing = x i; past = (a.past ∙ sym b.past) i; stopped = (a.runs.1 ∙ sym b.runs.1) i }
-step_once g h k Stopped a b = a ∙ sym b
+step_once g h k LogFailed a b = a ∙ sym b
 
 pub runs_once : (g h k : Stage) (es : List LifeEntry) → Runs g es h → Runs g es k → h ≡ k
 runs_once g h k [] a b = a ∙ sym b
@@ -37,25 +37,25 @@ runs_on g h k (x ∷ xs) ys r q = (r.0, r.1, runs_on r.0 h k xs ys r.2 q)
 stays_stopped : (g h : Stage) (es : List LifeEntry) → Runs g es h → g.stopped ≡ true → h.stopped ≡ true
 stays_stopped g h [] r t = ap (λ (m : Stage). m.stopped) r ∙ t
 stays_stopped g h (Asked by s q o ∷ es) r t = absurd (true≢false (sym t ∙ r.1.runs))
-stays_stopped g h (Taken ∷ es) r t = stays_stopped r.0 h es r.2 (ap (λ (m : Stage). m.stopped) r.1 ∙ t)
-stays_stopped g h (Turned ∷ es) r t = absurd (true≢false (sym t ∙ r.1.runs.0))
-stays_stopped g h (Stopped ∷ es) r t = stays_stopped r.0 h es r.2 (ap (λ (m : Stage). m.stopped) r.1)
+stays_stopped g h (CommitsTaken ∷ es) r t = stays_stopped r.0 h es r.2 (ap (λ (m : Stage). m.stopped) r.1 ∙ t)
+stays_stopped g h (EpochEnded ∷ es) r t = absurd (true≢false (sym t ∙ r.1.runs.0))
+stays_stopped g h (LogFailed ∷ es) r t = stays_stopped r.0 h es r.2 (ap (λ (m : Stage). m.stopped) r.1)
 
 -- if the log has not failed at the end of a life, the life tells of no failure
 pub no_stop : (g h : Stage) (es : List LifeEntry) → Runs g es h → h.stopped ≡ false → has_stop es ≡ false
 no_stop g h [] r f = refl
 no_stop g h (Asked by s q o ∷ es) r f = no_stop r.0 h es r.2 f
-no_stop g h (Taken ∷ es) r f = no_stop r.0 h es r.2 f
-no_stop g h (Turned ∷ es) r f = no_stop r.0 h es r.2 f
-no_stop g h (Stopped ∷ es) r f = absurd (true≢false (sym (stays_stopped r.0 h es r.2 (ap (λ (m : Stage). m.stopped) r.1)) ∙ f))
+no_stop g h (CommitsTaken ∷ es) r f = no_stop r.0 h es r.2 f
+no_stop g h (EpochEnded ∷ es) r f = no_stop r.0 h es r.2 f
+no_stop g h (LogFailed ∷ es) r f = absurd (true≢false (sym (stays_stopped r.0 h es r.2 (ap (λ (m : Stage). m.stopped) r.1)) ∙ f))
 
 -- and conversely
 pub still_runs : (g h : Stage) (es : List LifeEntry) → Runs g es h → g.stopped ≡ false → has_stop es ≡ false → h.stopped ≡ false
 still_runs g h [] r f n = ap (λ (m : Stage). m.stopped) r ∙ f
 still_runs g h (Asked by s q o ∷ es) r f n = still_runs r.0 h es r.2 (ap (λ (m : Stage). m.stopped) r.1.next ∙ f) n
-still_runs g h (Taken ∷ es) r f n = still_runs r.0 h es r.2 (ap (λ (m : Stage). m.stopped) r.1 ∙ f) n
-still_runs g h (Turned ∷ es) r f n = still_runs r.0 h es r.2 r.1.runs.1 n
-still_runs g h (Stopped ∷ es) r f n = absurd (true≢false n)
+still_runs g h (CommitsTaken ∷ es) r f n = still_runs r.0 h es r.2 (ap (λ (m : Stage). m.stopped) r.1 ∙ f) n
+still_runs g h (EpochEnded ∷ es) r f n = still_runs r.0 h es r.2 r.1.runs.1 n
+still_runs g h (LogFailed ∷ es) r f n = absurd (true≢false n)
 
 -- appending entries without a mark does not change whether a list has one
 any_append : (p : LifeEntry → Bool) (xs ys : List LifeEntry) → list_any p ys ≡ false → list_any p (xs ++ ys) ≡ list_any p xs
@@ -97,15 +97,15 @@ is_own n o e = let one = same_yes o n e in omega arith
 
 not_taking : (e : LifeEntry) → times (owner_of e) (LOG_SEAT ∷ []) ≡ 0 → is_taking e ≡ false
 not_taking (Asked by s q r) z = refl
-not_taking Taken z = absurd (let one = is_own LOG_SEAT LOG_SEAT refl in omega arith)
-not_taking Turned z = absurd (let one = is_own LOG_SEAT LOG_SEAT refl in omega arith)
-not_taking Stopped z = refl
+not_taking CommitsTaken z = absurd (let one = is_own LOG_SEAT LOG_SEAT refl in omega arith)
+not_taking EpochEnded z = absurd (let one = is_own LOG_SEAT LOG_SEAT refl in omega arith)
+not_taking LogFailed z = refl
 
 not_stop : (e : LifeEntry) → times (owner_of e) (LOG_SEAT ∷ []) ≡ 0 → is_stop e ≡ false
 not_stop (Asked by s q r) z = refl
-not_stop Taken z = refl
-not_stop Turned z = refl
-not_stop Stopped z = absurd (let one = is_own LOG_SEAT LOG_SEAT refl in omega arith)
+not_stop CommitsTaken z = refl
+not_stop EpochEnded z = refl
+not_stop LogFailed z = absurd (let one = is_own LOG_SEAT LOG_SEAT refl in omega arith)
 
 -- entries that the log's seat does not own include none of its marks
 module _ (p : LifeEntry → Bool) (not_mark : (e : LifeEntry) → times (owner_of e) (LOG_SEAT ∷ []) ≡ 0 → p e ≡ false) where

@@ -12,16 +12,16 @@ use Rattle.shared_store.specs.declared.reply.StoreReply.TheVariants.{Reply, Late
 use Rattle.shared_store.specs.Stages.{Stage}
 use Rattle.shared_store.specs.Lives.{LeadsTo}
 use Rattle.shared_store.specs.declared.reply.StoreReply.{StoreReply}
-use Rattle.shared_store.specs.Gaining.{Sees, SeesCall, SeesFree, SeesMarks}
+use Rattle.shared_store.specs.Gaining.{Sees, SeesCall, SeesFree, SeesNoCall}
 use Rattle.shared_store.specs.Turning.{IsPutOff}
 
--- a seat sees marks, and then what an answer adds
-module _ (b : Stage) (s : Session) (u v w : View LifeEntry Stage) (m : SeesMarks s.0 u v) where
+-- a seat sees no call of its session, and then what an answer adds
+module _ (b : Stage) (s : Session) (u v w : View LifeEntry Stage) (m : SeesNoCall s.0 u v) where
   before : (between : List LifeEntry) → v.seen ++ between ≡ u.seen ++ (m.more ++ between)
   before between = ap (λ (l : List LifeEntry). l ++ between) m.is ∙ append_assoc u.seen m.more between
 
-  marks_on : SeesMarks s.0 v w → SeesMarks s.0 u w
-  marks_on n = record { more = m.more ++ n.more; is = n.is ∙ (ap (λ (l : List LifeEntry). l ++ n.more) m.is ∙ append_assoc u.seen m.more n.more); calls = n.calls ∙ m.calls }
+  no_call_on : SeesNoCall s.0 v w → SeesNoCall s.0 u w
+  no_call_on n = record { more = m.more ++ n.more; is = n.is ∙ (ap (λ (l : List LifeEntry). l ++ n.more) m.is ∙ append_assoc u.seen m.more n.more); calls = n.calls ∙ m.calls }
 
   call_on : (q : Request) (r : TheReply) → SeesCall b s q r v w → SeesCall b s q r u w
   call_on q r n = record {
@@ -47,10 +47,10 @@ module _ (b : Stage) (s : Session) (u v w : View LifeEntry Stage) (m : SeesMarks
 
   pub sees_on : (q : Request) (r : Answer) → Sees b s q r v w → Sees b s q r u w
   sees_on q (answer.Reply (Reply r) n) a = call_on q r a
-  sees_on q (answer.Reply Later n) a = marks_on a
-  sees_on q (answer.Reply (Ended r) n) a = marks_on a
-  sees_on q answer.Ending a = marks_on a
-  sees_on q (answer.Unasked f) a = marks_on a
+  sees_on q (answer.Reply Later n) a = no_call_on a
+  sees_on q (answer.Reply (Ended r) n) a = no_call_on a
+  sees_on q answer.Drained a = no_call_on a
+  sees_on q (answer.Unasked f) a = no_call_on a
 
 -- what is seen by equal sessions from equal views
 pub sees_from : (b : Stage) (r s : Session) (q : Request) (a : Answer) (u v w : View LifeEntry Stage) → r ≡ s → u ≡ v → Sees b r q a u w → Sees b s q a v w
@@ -64,13 +64,13 @@ module _ (b : Stage) (s : Session) (q : Request) (v w : View LifeEntry Stage) (o
   at : (p : Answer) → o ≡ p → Sees b s q p v w
   at p e = subst (λ (a : Answer). Sees b s q a v w) e h
 
-  pub sees_ending : o ≡ answer.Ending → SeesMarks s.0 v w
-  sees_ending e = at answer.Ending e
+  pub sees_drained : o ≡ answer.Drained → SeesNoCall s.0 v w
+  sees_drained e = at answer.Drained e
 
 -- what holds if nothing was asked because the epoch is about to end
 module _ (P : Type 0) (o : Answer) (h : IsPutOff o → P) where
   pub later_put_off : (a : StoreReply) (n : ℕ) → o ≡ answer.Reply a n → a ≡ Later → P
   later_put_off a n is e = h (subst IsPutOff (sym (is ∙ ap (λ (x : StoreReply). answer.Reply x n) e)) tt)
 
-  pub ending_put_off : o ≡ answer.Ending → P
+  pub ending_put_off : o ≡ answer.Drained → P
   ending_put_off is = h (subst IsPutOff (sym is) tt)

@@ -10,7 +10,7 @@ use Rattle.teb_rules.specs.Answer.{answer}
 use Rattle.teb_rules.specs.Setup.{Store}
 use Rattle.commit_laws.specs.Commits.{commit_count}
 use Rattle.shared_store.specs.declared.entry.LifeEntry.{LifeEntry}
-use Rattle.shared_store.specs.declared.entry.LifeEntry.TheVariants.{Asked, Taken, Turned, Stopped}
+use Rattle.shared_store.specs.declared.entry.LifeEntry.TheVariants.{Asked, CommitsTaken, EpochEnded, LogFailed}
 use Rattle.shared_store.specs.declared.error.Fault.{Fault}
 use Rattle.shared_store.specs.Beginning.{HasRoomFor}
 use Rattle.shared_store.specs.Commits.{commits_in}
@@ -82,23 +82,23 @@ module _ (first : Stage) (x y : Standing) (past : ℕ) (stopped : Bool) (commits
   }
 
   -- a life extended by a mark that leaves the stage
-  pub life_taken : (new : List LifeEntry) → y ≡ x → new ≡ es ++ Taken ∷ [] → IsLifeOf first (stage_of past stopped y) commits new
+  pub life_taken : (new : List LifeEntry) → y ≡ x → new ≡ es ++ CommitsTaken ∷ [] → IsLifeOf first (stage_of past stopped y) commits new
   life_taken new e is = subst (λ (p : Standing × List LifeEntry). IsLifeOf first (stage_of past stopped p.0) commits p.1) (λ i. (sym e i, sym is i))
-      record { leads = leads_on first now now es (Taken ∷ []) l.leads (now, refl, refl); counted = l.counted }
+      record { leads = leads_on first now now es (CommitsTaken ∷ []) l.leads (now, refl, refl); counted = l.counted }
 
-  pub life_stopped : (new : List LifeEntry) (stop : Bool) → stop ≡ true → new ≡ es ++ Stopped ∷ [] → IsLifeOf first (stage_of past stop x) commits new
+  pub life_stopped : (new : List LifeEntry) (stop : Bool) → stop ≡ true → new ≡ es ++ LogFailed ∷ [] → IsLifeOf first (stage_of past stop x) commits new
   life_stopped new stop t is = subst (λ (p : Bool × List LifeEntry). IsLifeOf first (stage_of past p.0 x) commits p.1) (λ i. (sym t i, sym is i))
-      record { leads = leads_on first now (stage_of past true x) es (Stopped ∷ []) l.leads (stage_of past true x, refl, refl); counted = l.counted }
+      record { leads = leads_on first now (stage_of past true x) es (LogFailed ∷ []) l.leads (stage_of past true x, refl, refl); counted = l.counted }
 
   pub life_same : y ≡ x → IsLifeOf first (stage_of past stopped y) commits es
   life_same e = subst (λ (p : Standing). IsLifeOf first (stage_of past stopped p) commits es) (sym e) l
 
   -- once all is taken, no commit waits
-  pub waiting_none : (w : List Event → Type 0) (new : List LifeEntry) → y ≡ x → new ≡ es ++ Taken ∷ [] → w y.events → ∥ IsWaiting w first (stage_of past stopped y) new ∥₁
+  pub waiting_none : (w : List Event → Type 0) (new : List LifeEntry) → y ≡ x → new ≡ es ++ CommitsTaken ∷ [] → w y.events → ∥ IsWaiting w first (stage_of past stopped y) new ∥₁
   waiting_none w new e is q = ∥∥₁_map l.leads (λ r. record {
     taken = stage_of past stopped y;
-    leads = subst (λ (p : Standing × List LifeEntry). Runs first p.1 (stage_of past stopped p.0)) (λ i. (sym e i, sym (ap taken_of is ∙ taken_all es Taken refl) i))
-        (runs_on first now now es (Taken ∷ []) r (now, refl, refl));
+    leads = subst (λ (p : Standing × List LifeEntry). Runs first p.1 (stage_of past stopped p.0)) (λ i. (sym e i, sym (ap taken_of is ∙ taken_all es CommitsTaken refl) i))
+        (runs_on first now now es (CommitsTaken ∷ []) r (now, refl, refl));
     store = refl;
     past = refl;
     fewer = (let z : past + commit_count y.events ≤ past + commit_count y.events = omega arith in z);
@@ -106,19 +106,19 @@ module _ (first : Stage) (x y : Standing) (past : ℕ) (stopped : Bool) (commits
   })
 
   -- the commits that were taken are brought to the log
-  pub brings_all : (w : List Event → Type 0) (brings : Store → List Event → List Event → Type 0) (new : List LifeEntry) → new ≡ es ++ Taken ∷ [] → ((H : List Event) → w H → brings x.store H x.events)
+  pub brings_all : (w : List Event → Type 0) (brings : Store → List Event → List Event → Type 0) (new : List LifeEntry) → new ≡ es ++ CommitsTaken ∷ [] → ((H : List Event) → w H → brings x.store H x.events)
       → ∥ IsWaiting w first now es ∥₁ → ∥ IsBrought brings first commits es new ∥₁
   brings_all w brings new is b h = ∥∥₁_map₂ h l.leads (λ q r. record {
     before = q.taken;
     after = now;
     begins = q.leads;
-    ends = subst (λ (n : List LifeEntry). Runs first n now) (sym (ap taken_of is ∙ taken_all es Taken refl)) (runs_on first now now es (Taken ∷ []) r (now, refl, refl));
+    ends = subst (λ (n : List LifeEntry). Runs first n now) (sym (ap taken_of is ∙ taken_all es CommitsTaken refl)) (runs_on first now now es (CommitsTaken ∷ []) r (now, refl, refl));
     store = q.store;
     past = q.past;
     fewer = q.fewer;
     counted = l.counted;
     brought = b q.taken.standing.events q.wait;
-    runs = λ n. stop_behind es (Taken ∷ []) new is refl ∙ n;
+    runs = λ n. stop_behind es (CommitsTaken ∷ []) new is refl ∙ n;
   })
 
 module _ (w v : List Event → Type 0) (goes_on : (H : List Event) → w H → v H) (first : Stage) (x y : Standing) (past : ℕ) (stopped : Bool) (es : List LifeEntry)
@@ -149,10 +149,10 @@ module _ (w v : List Event → Type 0) (goes_on : (H : List Event) → w H → v
     wait = goes_on k.taken.standing.events k.wait;
   })
 
-  pub waiting_stopped : (new : List LifeEntry) (stop : Bool) → new ≡ es ++ Stopped ∷ [] → ∥ IsWaiting v first (stage_of past stop x) new ∥₁
+  pub waiting_stopped : (new : List LifeEntry) (stop : Bool) → new ≡ es ++ LogFailed ∷ [] → ∥ IsWaiting v first (stage_of past stop x) new ∥₁
   waiting_stopped new stop is = ∥∥₁_map h (λ k. record {
     taken = k.taken;
-    leads = subst (λ (n : List LifeEntry). Runs first n k.taken) (sym (ap taken_of is ∙ taken_behind es (Stopped ∷ []) refl)) k.leads;
+    leads = subst (λ (n : List LifeEntry). Runs first n k.taken) (sym (ap taken_of is ∙ taken_behind es (LogFailed ∷ []) refl)) k.leads;
     store = k.store;
     past = k.past;
     fewer = k.fewer;
@@ -188,40 +188,40 @@ new_waiting w x f es e none fresh h = subst (λ (y : Standing). ∥ IsWaiting w 
 
 -- an epoch has ended
 module _ (first : Stage) (x y : Standing) (past commits : ℕ) (stopped : Bool) (es new : List LifeEntry) (l : IsLifeOf first (stage_of past stopped x) commits es) (runs : stopped ≡ false)
-    (begun : IsBegun x y) (is : new ≡ es ++ Turned ∷ []) where
+    (begun : IsBegun x y) (is : new ≡ es ++ EpochEnded ∷ []) where
   next : IsNextEpoch (stage_of past stopped x) (stage_of commits stopped y)
   next = record { runs = (runs, runs); begun = begun; past = l.counted }
 
-  pub life_turned : IsLifeOf first (stage_of commits stopped y) commits new
-  life_turned = record {
+  pub life_epoch_ended : IsLifeOf first (stage_of commits stopped y) commits new
+  life_epoch_ended = record {
     leads = subst (λ (n : List LifeEntry). LeadsTo first n (stage_of commits stopped y)) (sym is)
-        (leads_on first (stage_of past stopped x) (stage_of commits stopped y) es (Turned ∷ []) l.leads (stage_of commits stopped y, next, refl));
+        (leads_on first (stage_of past stopped x) (stage_of commits stopped y) es (EpochEnded ∷ []) l.leads (stage_of commits stopped y, next, refl));
     counted = (let z = no_commits y.events begun.events in omega arith);
   }
 
-  runs_turned : Runs first es (stage_of past stopped x) → Runs first (taken_of new) (stage_of commits stopped y)
-  runs_turned r = subst (λ (n : List LifeEntry). Runs first n (stage_of commits stopped y)) (sym (ap taken_of is ∙ taken_all es Turned refl))
-      (runs_on first (stage_of past stopped x) (stage_of commits stopped y) es (Turned ∷ []) r (stage_of commits stopped y, next, refl))
+  runs_epoch_ended : Runs first es (stage_of past stopped x) → Runs first (taken_of new) (stage_of commits stopped y)
+  runs_epoch_ended r = subst (λ (n : List LifeEntry). Runs first n (stage_of commits stopped y)) (sym (ap taken_of is ∙ taken_all es EpochEnded refl))
+      (runs_on first (stage_of past stopped x) (stage_of commits stopped y) es (EpochEnded ∷ []) r (stage_of commits stopped y, next, refl))
 
-  pub waiting_turned : (w : List Event → Type 0) → ∥ w [] ∥₁ → ∥ IsWaiting w first (stage_of commits stopped y) new ∥₁
-  waiting_turned w h = ∥∥₁_map₂ h l.leads (λ q r. record {
+  pub waiting_epoch_ended : (w : List Event → Type 0) → ∥ w [] ∥₁ → ∥ IsWaiting w first (stage_of commits stopped y) new ∥₁
+  waiting_epoch_ended w h = ∥∥₁_map₂ h l.leads (λ q r. record {
     taken = stage_of commits stopped y;
-    leads = runs_turned r;
+    leads = runs_epoch_ended r;
     store = refl;
     past = refl;
     fewer = (let z : commits + commit_count y.events ≤ commits + commit_count y.events = omega arith in z);
     wait = subst w (sym begun.events) q;
   })
 
-  pub kept_turned : (keep : Store → List Event → ℕ → Type 0) → ∥ keep y.store [] 0 ∥₁ → ∥ IsKept keep first false commits new ∥₁
-  kept_turned keep h = ∥∥₁_map₂ h l.leads (λ q r. record {
+  pub kept_epoch_ended : (keep : Store → List Event → ℕ → Type 0) → ∥ keep y.store [] 0 ∥₁ → ∥ IsKept keep first false commits new ∥₁
+  kept_epoch_ended keep h = ∥∥₁_map₂ h l.leads (λ q r. record {
     taken = stage_of commits stopped y;
-    leads = runs_turned r;
+    leads = runs_epoch_ended r;
     count = 0;
     keeps = subst (λ (H : List Event). keep y.store H 0) (sym begun.events) q;
     counted = (let z : commits ≡ commits + 0 = omega arith in z);
     all = λ _. sym (no_commits y.events begun.events);
-    runs = λ _. stop_behind es (Turned ∷ []) new is refl ∙ no_stop first (stage_of past stopped x) es r runs;
+    runs = λ _. stop_behind es (EpochEnded ∷ []) new is refl ∙ no_stop first (stage_of past stopped x) es r runs;
   })
 
 -- an epoch goes on, and all its entries were taken
@@ -249,8 +249,8 @@ module _ (first : Stage) (x y : Standing) (past commits : ℕ) (stopped : Bool) 
   })
 
 -- if the last entry is a taking, the whole life was taken
-pub all_taken : (first now : Stage) (old new : List LifeEntry) → new ≡ old ++ Taken ∷ [] → LeadsTo first new now → (taken_of new ≡ new) × ∥ Runs first (taken_of new) now ∥₁
-all_taken first now old new is l = let e : taken_of new ≡ new = ap taken_of is ∙ (taken_all old Taken refl ∙ sym is) in (e, subst (λ (n : List LifeEntry). ∥ Runs first n now ∥₁) (sym e) l)
+pub all_taken : (first now : Stage) (old new : List LifeEntry) → new ≡ old ++ CommitsTaken ∷ [] → LeadsTo first new now → (taken_of new ≡ new) × ∥ Runs first (taken_of new) now ∥₁
+all_taken first now old new is l = let e : taken_of new ≡ new = ap taken_of is ∙ (taken_all old CommitsTaken refl ∙ sym is) in (e, subst (λ (n : List LifeEntry). ∥ Runs first n now ∥₁) (sym e) l)
 
-pub stop_taken : (old new : List LifeEntry) → new ≡ old ++ Stopped ∷ [] → taken_of new ≡ taken_of old
-stop_taken old new is = ap taken_of is ∙ taken_behind old (Stopped ∷ []) refl
+pub stop_taken : (old new : List LifeEntry) → new ≡ old ++ LogFailed ∷ [] → taken_of new ≡ taken_of old
+stop_taken old new is = ap taken_of is ∙ taken_behind old (LogFailed ∷ []) refl

@@ -13,7 +13,7 @@ use Rattle.turn_lock.specs.Calls.{Follows, Enters, Adds}
 use Rattle.turn_lock.proofs.Counts.{same_yes}
 use Rattle.turn_lock.proofs.Lists.{All_cons, All_map, All_none, Some_is}
 use Rattle.shared_store.specs.declared.entry.LifeEntry.{LifeEntry}
-use Rattle.shared_store.specs.declared.entry.LifeEntry.TheVariants.{Asked, Stopped}
+use Rattle.shared_store.specs.declared.entry.LifeEntry.TheVariants.{Asked, LogFailed}
 use Rattle.shared_store.specs.declared.entry.TheConstants.{LOG_SEAT}
 use Rattle.shared_store.specs.declared.answer.Answer.{Answer}
 use Rattle.shared_store.specs.declared.answer.Answer.TheVariants as answer
@@ -26,59 +26,59 @@ use Rattle.shared_store.specs.Holding.{IsBrought, IsKept, stage_of}
 use Rattle.shared_store.specs.Seated.{IsKeptAt}
 use Rattle.shared_store.specs.Lives.{IsLegalLife, LeadsTo, Runs, calls_of, has_stop, owner_of, taken_of}
 use Rattle.shared_store.specs.Hosting.{entries_in, note_in, first_of}
-use Rattle.shared_store.specs.Turning.{AddsCall, AddsMarks, GrowsBy, IsNumbered}
+use Rattle.shared_store.specs.Turning.{AddsCall, AddsForOthers, GrowsBy, IsNumbered}
 use Rattle.shared_store.specs.Turning as turning
-use Rattle.shared_store.specs.Gaining.{IsCountedIn, LogTurn, Sees, SeesCall, SeesFree, SeesMarks, TakesBatch, TakesNone, TakesTurns}
-use Rattle.shared_store.proofs.Calls.{calls_append, marks_none, one_call, others_none}
+use Rattle.shared_store.specs.Gaining.{IsCountedIn, LogTurn, Sees, SeesCall, SeesFree, SeesNoCall, TakesBatch, TakesNone, TakesTurns}
+use Rattle.shared_store.proofs.Calls.{calls_append, for_others_none, one_call, others_none}
 use Rattle.shared_store.proofs.Courses.{others_stop_none, others_take_none, stop_behind, taken_behind}
 use Rattle.shared_store.proofs.Living.{is_legal}
 use Rattle.shared_store.proofs.Keeping.{kept_still}
 
 -- what a session sees of added entries that follow entries of others
 module _ (s : Session) (v w : View LifeEntry Stage) (o : v.owners ≡ s.0 ∷ []) (between : List LifeEntry) (others : All (λ (e : LifeEntry). times (owner_of e) v.owners ≡ 0) between) where
-  more_calls : (marks : List LifeEntry) → calls_of s.0 marks ≡ [] → calls_of s.0 (v.seen ++ (between ++ marks)) ≡ calls_of s.0 v.seen
-  more_calls marks b = ap (calls_of s.0) (sym (append_assoc v.seen between marks))
-      ∙ (calls_append s.0 (v.seen ++ between) marks ∙ (ap (λ (p : List LifeEntry × List LifeEntry). p.0 ++ p.1) (λ i. (others_none s.0 v.owners v.seen between o others i, b i))
+  more_calls : (more : List LifeEntry) → calls_of s.0 more ≡ [] → calls_of s.0 (v.seen ++ (between ++ more)) ≡ calls_of s.0 v.seen
+  more_calls more b = ap (calls_of s.0) (sym (append_assoc v.seen between more))
+      ∙ (calls_append s.0 (v.seen ++ between) more ∙ (ap (λ (p : List LifeEntry × List LifeEntry). p.0 ++ p.1) (λ i. (others_none s.0 v.owners v.seen between o others i, b i))
       ∙ append-nil (calls_of s.0 v.seen)))
 
-  pub sees_marks : AddsMarks s.0 (v.seen ++ between) w.seen → SeesMarks s.0 v w
-  sees_marks a = record {
-    more = between ++ a.marks;
+  pub sees_no_call : AddsForOthers s.0 (v.seen ++ between) w.seen → SeesNoCall s.0 v w
+  sees_no_call a = record {
+    more = between ++ a.more;
     is = is;
-    calls = ap (calls_of s.0) is ∙ more_calls a.marks (marks_none s.0 a.marks a.mine);
+    calls = ap (calls_of s.0) is ∙ more_calls a.more (for_others_none s.0 a.more a.mine);
   }
     where
-      is : w.seen ≡ v.seen ++ (between ++ a.marks)
-      is = a.is ∙ append_assoc v.seen between a.marks
+      is : w.seen ≡ v.seen ++ (between ++ a.more)
+      is = a.is ∙ append_assoc v.seen between a.more
 
   pub sees_call : (b : Stage) (q : Request) (r : TheReply) → AddsCall b s q r (v.seen ++ between) w.seen → SeesCall b s q r v w
   sees_call b q r a = record {
-    between = between ++ a.goes_on.marks;
+    between = between ++ a.goes_on.more;
     short = a.short;
     stage = a.stage;
     is = is;
     leads = subst (λ (l : List LifeEntry). LeadsTo b l a.stage) before a.leads;
     reply = a.reply;
     short_of = a.short_of;
-    calls = ap (calls_of s.0) is ∙ (calls_append s.0 (v.seen ++ (between ++ a.goes_on.marks)) (call ∷ [])
-        ∙ ap (λ (p : List LifeEntry × List LifeEntry). p.0 ++ p.1) (λ i. (more_calls a.goes_on.marks (marks_none s.0 a.goes_on.marks a.goes_on.mine) i, one_call s q a.short i)));
+    calls = ap (calls_of s.0) is ∙ (calls_append s.0 (v.seen ++ (between ++ a.goes_on.more)) (call ∷ [])
+        ∙ ap (λ (p : List LifeEntry × List LifeEntry). p.0 ++ p.1) (λ i. (more_calls a.goes_on.more (for_others_none s.0 a.goes_on.more a.goes_on.mine) i, one_call s q a.short i)));
   }
     where
       call : LifeEntry
       call = Asked s s q a.short
 
-      before : a.before ≡ v.seen ++ (between ++ a.goes_on.marks)
-      before = a.goes_on.is ∙ append_assoc v.seen between a.goes_on.marks
+      before : a.before ≡ v.seen ++ (between ++ a.goes_on.more)
+      before = a.goes_on.is ∙ append_assoc v.seen between a.goes_on.more
 
-      is : w.seen ≡ (v.seen ++ (between ++ a.goes_on.marks)) ++ call ∷ []
+      is : w.seen ≡ (v.seen ++ (between ++ a.goes_on.more)) ++ call ∷ []
       is = a.is ∙ ap (λ (l : List LifeEntry). l ++ call ∷ []) before
 
   pub sees : (b : Stage) (q : Request) (r : Answer) → turning.Adds b s q r (v.seen ++ between) w.seen → Sees b s q r v w
   sees b q (answer.Reply (Reply r) n) a = sees_call b q r a
-  sees b q (answer.Reply Later n) a = sees_marks a
-  sees b q (answer.Reply (Ended r) n) a = sees_marks a
-  sees b q answer.Ending a = sees_marks a
-  sees b q (answer.Unasked f) a = sees_marks a
+  sees b q (answer.Reply Later n) a = sees_no_call a
+  sees b q (answer.Reply (Ended r) n) a = sees_no_call a
+  sees b q answer.Drained a = sees_no_call a
+  sees b q (answer.Unasked f) a = sees_no_call a
 
 module _ {V L B : Type 0} {g : Ghosts V L B} (s : ℕ) (v0 v1 : View LifeEntry Stage) (x0 x1 : Hosted V L B g) where
   -- x0 was taken with the view v1, and x1 is to be put back with it
@@ -150,7 +150,7 @@ module _ {V L B : Type 0} {g : Ghosts V L B} (s : ℕ) (v0 v1 : View LifeEntry S
       leads = subst (λ (y : Stage × List LifeEntry). LeadsTo y.0 y.1 (stage_of x1.past x1.stopped (g.standing x1.server))) (λ i. ((same_base t ∙ first_is b h) i, sym seen i)) x1.life.leads;
       counted = k ∙ x1.life.counted;
     }
-    counts b answer.Ending h k = tt
+    counts b answer.Drained h k = tt
     counts b (answer.Unasked f) h k = tt
 
 -- what a session that asked sees
@@ -174,8 +174,8 @@ module _ {V L B : Type 0} {g : Ghosts V L B} (s : Session) (v0 v1 : View LifeEnt
     free = n;
   }
 
-  pub sees_none : AddsMarks s.0 (entries_in x0) (entries_in x1) → SeesMarks s.0 v0 w
-  sees_none a = sees_marks s v0 w t.owner t.follows.goes.more t.follows.goes.others (found s.0 v0 v1 x0 x1 w t e (λ (l m : List LifeEntry). AddsMarks s.0 l m) a)
+  pub sees_none : AddsForOthers s.0 (entries_in x0) (entries_in x1) → SeesNoCall s.0 v0 w
+  sees_none a = sees_no_call s v0 w t.owner t.follows.goes.more t.follows.goes.others (found s.0 v0 v1 x0 x1 w t e (λ (l m : List LifeEntry). AddsForOthers s.0 l m) a)
 
 pub mark_grows : (mark : LifeEntry) (old new : List LifeEntry) → owner_of mark ≡ LOG_SEAT → new ≡ old ++ mark ∷ [] → GrowsBy LOG_SEAT old new
 mark_grows mark old new o is = record { more = mark ∷ []; is = is; mine = All_cons (λ (e : LifeEntry). owner_of e ≡ LOG_SEAT) mark [] o (All_none (λ (e : LifeEntry). owner_of e ≡ LOG_SEAT)) }
@@ -208,8 +208,8 @@ module _ {V L B : Type 0} {g : Ghosts V L B} (v0 v1 : View LifeEntry Stage) (x0 
           });
     }
 
-    pub takes_none : entries_in x1 ≡ entries_in x0 ++ Stopped ∷ [] → TakesNone v0 w
-    takes_none is = record { same = ap taken_of (seen LOG_SEAT v0 v1 x0 x1 w t e ∙ is) ∙ (taken_behind (entries_in x0) (Stopped ∷ []) refl ∙ still) }
+    pub takes_none : entries_in x1 ≡ entries_in x0 ++ LogFailed ∷ [] → TakesNone v0 w
+    takes_none is = record { same = ap taken_of (seen LOG_SEAT v0 v1 x0 x1 w t e ∙ is) ∙ (taken_behind (entries_in x0) (LogFailed ∷ []) refl ∙ still) }
 
     -- what the log keeps of what the seat has seen, it keeps of the life in x0
     pub kept_found : (keep : Store → List Event → ℕ → Type 0) (failed : Bool) (total : ℕ) → IsKeptAt keep failed total v0 → ∥ IsKept keep (first_of x0) failed total (entries_in x0) ∥₁

@@ -5,15 +5,9 @@ use Rattle.teb_rules.specs.Setup.{Store}
 use Rattle.shared_store.specs.declared.entry.LifeEntry.{LifeEntry}
 use Rattle.shared_store.specs.declared.server.EpochServer.{Ghosts}
 use Rattle.shared_store.specs.declared.session.StoreSession.{StoreSession}
-use Rattle.shared_store.specs.Ending as ending
 use Rattle.shared_store.specs.Holding.{IsKept}
-use Rattle.shared_store.specs.Served.{Standing}
 use Rattle.shared_store.specs.Sharing.{told}
 use Rattle.shared_store.specs.Stages.{Stage}
-
--- the life leads to where the server is
-abbrev pub LeadsToServer : Stage → Standing → List LifeEntry → Type 0
-LeadsToServer = ending.LeadsToServer
 
 -- the log keeps at least as many of the first commits of the life as any of these sessions was told
 pub record IsKeptToTheEnd {V L B : Type 0} {g : Ghosts V L B} (keep : Store → List Event → ℕ → Type 0) (first : Stage) (failed : Bool) (life : List LifeEntry)

@@ -19,8 +19,8 @@ use Rattle.shared_store.specs.Beginning.{holds}
 use Rattle.shared_store.specs.Stages.{Stage, commits_at, reply_at}
 use Rattle.shared_store.specs.Holding.{IsBrought}
 use Rattle.shared_store.specs.Lives.{IsLegalLife, IsShortOf, LeadsTo, calls_of, taken_of}
-use Rattle.shared_store.specs.declared.error.Failure.{Failure}
-use Rattle.shared_store.specs.declared.error.Failure.TheVariants.{Unasked, Unsure}
+use Rattle.shared_store.specs.declared.error.AskError.{AskError}
+use Rattle.shared_store.specs.declared.error.AskError.TheVariants.{Unasked, Unsure}
 use Rattle.shared_store.specs.Places.{Place}
 use Rattle.shared_store.specs.Totals.{total_in}
 
@@ -32,7 +32,7 @@ pub record TakesTurns (n : ℕ) (v w : View LifeEntry Stage) : Type 0 where
   pub legal : (b : Stage) → w.base ≡ Some b → IsLegalLife b w.seen
 
 -- what was seen goes on, with no call of session s
-pub record SeesMarks (s : ℕ) (v w : View LifeEntry Stage) : Type 0 where
+pub record SeesNoCall (s : ℕ) (v w : View LifeEntry Stage) : Type 0 where
   pub more : List LifeEntry
   pub is : w.seen ≡ v.seen ++ more
   pub calls : calls_of s w.seen ≡ calls_of s v.seen
@@ -60,10 +60,10 @@ pub record SeesCall (b : Stage) (s : Session) (q : Request) (r : TheReply) (v w 
 -- what the seat sees by an answer
 abbrev pub Sees : Stage → Session → Request → Answer → View LifeEntry Stage → View LifeEntry Stage → Type 0
 Sees b s q (answer.Reply (Reply r) n) v w = SeesCall b s q r v w
-Sees b s q (answer.Reply Later n) v w = SeesMarks s.0 v w
-Sees b s q (answer.Reply (Ended r) n) v w = SeesMarks s.0 v w
-Sees b s q answer.Ending v w = SeesMarks s.0 v w
-Sees b s q (answer.Unasked f) v w = SeesMarks s.0 v w
+Sees b s q (answer.Reply Later n) v w = SeesNoCall s.0 v w
+Sees b s q (answer.Reply (Ended r) n) v w = SeesNoCall s.0 v w
+Sees b s q answer.Drained v w = SeesNoCall s.0 v w
+Sees b s q (answer.Unasked f) v w = SeesNoCall s.0 v w
 
 -- so many commits has the life that was seen
 pub record HasCommits (b : Stage) (n : ℕ) (seen : List LifeEntry) : Type 0 where
@@ -74,7 +74,7 @@ pub record HasCommits (b : Stage) (n : ℕ) (seen : List LifeEntry) : Type 0 whe
 -- a reply comes with that number
 abbrev pub IsCountedIn : Stage → Answer → List LifeEntry → Type 0
 IsCountedIn b (answer.Reply a n) seen = HasCommits b n seen
-IsCountedIn b answer.Ending seen = Unit {0}
+IsCountedIn b answer.Drained seen = Unit {0}
 IsCountedIn b (answer.Unasked f) seen = Unit {0}
 
 -- the log's seat took a turn
@@ -106,12 +106,12 @@ is_commit_reply Later = false
 is_commit_reply (Ended r) = false
 
 -- what the seat sees by the result of a call
-abbrev pub Gains : Stage → Session → Request → Result StoreReply Failure → View LifeEntry Stage → View LifeEntry Stage → Type 0
+abbrev pub Gains : Stage → Session → Request → Result StoreReply AskError → View LifeEntry Stage → View LifeEntry Stage → Type 0
 Gains b s q (Ok (Reply r)) v w = SeesCall b s q r v w
-Gains b s q (Ok Later) v w = SeesMarks s.0 v w
-Gains b s q (Ok (Ended r)) v w = SeesMarks s.0 v w
+Gains b s q (Ok Later) v w = SeesNoCall s.0 v w
+Gains b s q (Ok (Ended r)) v w = SeesNoCall s.0 v w
 Gains b s q (Err Unsure) v w = SeesCall b s q Committed v w
-Gains b s q (Err (Unasked f)) v w = SeesMarks s.0 v w
+Gains b s q (Err (Unasked f)) v w = SeesNoCall s.0 v w
 
 -- the log has told that it keeps all commits of the life that was seen
 pub record SafeAt (b : Stage) (seen : List LifeEntry) (told : List Kept) : Type 0 where

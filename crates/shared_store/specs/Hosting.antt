@@ -1,7 +1,7 @@
 -- What a turn at the front sees of the server behind it.
 use Rattle.std.specs.Prelude.{◌≡◌, ℕ, List, [], ◌∷◌, ◌++◌}
 use Rattle.shared_store.specs.declared.entry.LifeEntry.{LifeEntry}
-use Rattle.shared_store.specs.declared.entry.LifeEntry.TheVariants.{Taken}
+use Rattle.shared_store.specs.declared.entry.LifeEntry.TheVariants.{CommitsTaken}
 use Rattle.shared_store.specs.declared.server.EpochServer.{Ghosts}
 use Rattle.shared_store.specs.declared.hosted.Hosted.{Hosted}
 use Rattle.shared_store.specs.Stages.{Stage, first_stage}
@@ -19,6 +19,6 @@ module _ {V L B : Type 0} {g : Ghosts V L B} where
 
   -- the commits that waited were taken. The server stands where it stood
   pub record IsTaken (old new : Hosted V L B g) : Type 0 where
-    pub entries : entries_in new ≡ entries_in old ++ Taken ∷ []
+    pub entries : entries_in new ≡ entries_in old ++ CommitsTaken ∷ []
     pub first : new.first ≡ old.first
     pub standing : g.standing new.server ≡ g.standing old.server

@@ -7,7 +7,7 @@ use Rattle.teb_rules.specs.declared.names.Session.{Session}
 use Rattle.short_reply.specs.declared.ShortReply.{ShortReply}
 use Rattle.short_reply.specs.ShortReplies.{full_reply, HasValues}
 use Rattle.shared_store.specs.declared.entry.LifeEntry.{LifeEntry}
-use Rattle.shared_store.specs.declared.entry.LifeEntry.TheVariants.{Asked, Taken, Turned, Stopped}
+use Rattle.shared_store.specs.declared.entry.LifeEntry.TheVariants.{Asked, CommitsTaken, EpochEnded, LogFailed}
 use Rattle.shared_store.specs.declared.entry.TheConstants.{LOG_SEAT}
 use Rattle.shared_store.specs.Beginning.{HasRoomFor}
 use Rattle.shared_store.specs.Stages.{Stage, reply_at, asked_at, stopped_at, IsNextEpoch}
@@ -15,9 +15,9 @@ use Rattle.shared_store.specs.Stages.{Stage, reply_at, asked_at, stopped_at, IsN
 -- the session at whose turn the entry came; of marks, the log's seat
 abbrev pub owner_of : LifeEntry → ℕ
 owner_of (Asked by s q r) = by.0
-owner_of Taken = LOG_SEAT
-owner_of Turned = LOG_SEAT
-owner_of Stopped = LOG_SEAT
+owner_of CommitsTaken = LOG_SEAT
+owner_of EpochEnded = LOG_SEAT
+owner_of LogFailed = LOG_SEAT
 
 -- the short form of a reply; none if it has the values of a scan
 abbrev pub IsShortOf : Reply → Option ShortReply → Type 0
@@ -35,9 +35,9 @@ pub record IsAsked (g : Stage) (s : Session) (q : Request) (short : Option Short
 -- from stage to stage: a request, commits that are taken, an epoch that begins, or a log that has failed
 abbrev pub Step : Stage → LifeEntry → Stage → Type 0
 Step g (Asked by s q r) h = IsAsked g s q r h
-Step g Taken h = h ≡ g
-Step g Turned h = IsNextEpoch g h
-Step g Stopped h = h ≡ stopped_at g
+Step g CommitsTaken h = h ≡ g
+Step g EpochEnded h = IsNextEpoch g h
+Step g LogFailed h = h ≡ stopped_at g
 
 abbrev pub Runs : Stage → List LifeEntry → Stage → Type 0
 Runs g [] h = h ≡ g
@@ -53,9 +53,9 @@ IsLegalLife g es = ∥ ((h : Stage) × Runs g es h) ∥₁
 -- with it all commits have gone to the log: they were taken, or the epoch has ended
 abbrev pub is_taking : LifeEntry → Bool
 is_taking (Asked by s q r) = false
-is_taking Taken = true
-is_taking Turned = true
-is_taking Stopped = false
+is_taking CommitsTaken = true
+is_taking EpochEnded = true
+is_taking LogFailed = false
 
 -- the list up to the last entry with which all commits had gone to the log
 abbrev pub taken_of : List LifeEntry → List LifeEntry
@@ -65,9 +65,9 @@ taken_of (e ∷ es) = let more = taken_of es in cond (is_taking e || list_any is
 -- with it the log has failed
 abbrev pub is_stop : LifeEntry → Bool
 is_stop (Asked by s q r) = false
-is_stop Taken = false
-is_stop Turned = false
-is_stop Stopped = true
+is_stop CommitsTaken = false
+is_stop EpochEnded = false
+is_stop LogFailed = true
 
 -- the list tells of a failure of the log
 abbrev pub has_stop : List LifeEntry → Bool
@@ -76,14 +76,14 @@ has_stop es = list_any is_stop es
 -- session n asked it itself
 abbrev pub is_call_of : ℕ → LifeEntry → Bool
 is_call_of n (Asked by s q r) = (by.0 == n) && (s.0 == n)
-is_call_of n Taken = false
-is_call_of n Turned = false
-is_call_of n Stopped = false
+is_call_of n CommitsTaken = false
+is_call_of n EpochEnded = false
+is_call_of n LogFailed = false
 
 -- the calls of session n, in order
 abbrev pub calls_of : ℕ → List LifeEntry → List LifeEntry
 calls_of n es = filter (is_call_of n) es
 
 -- it came at the turn of session n, and is no call of it
-abbrev pub IsMarkOf : ℕ → LifeEntry → Type 0
-IsMarkOf n e = (owner_of e ≡ n) × (is_call_of n e ≡ false)
+abbrev pub IsForOther : ℕ → LifeEntry → Type 0
+IsForOther n e = (owner_of e ≡ n) × (is_call_of n e ≡ false)

@@ -1,11 +1,18 @@
--- Why a store is closed without a checkpoint.
-use Rattle.std.specs.Prelude.{◌≡◌, ◌⊎◌, Bool, true, false, List}
+-- Whether a store is closed with a checkpoint, and if not, why.
+use Rattle.std.specs.Prelude.{◌≡◌, ℕ, ◌⊎◌, Bool, true, false, List, []}
 use Rattle.teb_rules.specs.declared.history.Event.{Event}
+use Rattle.teb_rules.specs.Setup.{Store}
 use Rattle.shared_store.specs.declared.error.Fault.{Fault}
 use Rattle.shared_store.specs.declared.error.Fault.TheVariants.{Stopped, Full, OutOfMemory}
 use Rattle.shared_store.specs.declared.no_checkpoint.NoCheckpoint.{NoCheckpoint}
 use Rattle.shared_store.specs.declared.no_checkpoint.NoCheckpoint.TheVariants.{Held, Failed}
-use Rattle.shared_store.specs.Served.{IsDrained, IsObstacle}
+use Rattle.shared_store.specs.Served.{IsDrained, IsObstacle, Standing}
+
+-- the log runs, nothing has happened in the epoch, and the log keeps the rows with which it began and no commit
+pub record IsCheckpointed (keep : Store → List Event → ℕ → Type 0) (failed : Bool) (x : Standing) : Type 0 where
+  pub runs : failed ≡ false
+  pub begun : x.events ≡ []
+  pub kept : ∥ keep x.store [] 0 ∥₁
 
 -- the log has failed; with another fault than Stopped it may run, and then nothing keeps the epoch from its end
 abbrev pub IsCause : Bool → List Event → Fault → Type 0

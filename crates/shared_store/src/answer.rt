@@ -9,7 +9,7 @@ pub(crate) enum Answer {
     /// A reply, and how many commits the life has by now.
     Reply(StoreReply, u64),
     /// Nothing was asked: the epoch is to end, and nothing keeps it from its end.
-    Ending,
+    Drained,
     /// Nothing was asked.
     Unasked(Fault),
 }

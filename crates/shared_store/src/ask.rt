@@ -9,7 +9,7 @@ ghost use Rattle.shared_store.specs.declared.reply.StoreReply.TheVariants as sto
 ghost use Rattle.shared_store.specs.Beginning.{IsBegin};
 ghost use Rattle.shared_store.specs.Sharing.{base_of, IsAnswered, IsSafe, IsSessionOf, IsUnasked, WasFree, told};
 
-use crate::error::{Failure, StoreError};
+use crate::error::{AskError, StoreError};
 use crate::reply::StoreReply;
 use crate::server::EpochServer;
 use crate::session::{MOST_ASKS, StoreSession};
@@ -46,7 +46,7 @@ impl<S: EpochServer> StoreSession<S> {
         ensures answered { IfOk result (λ a. (r : TheReply) → a ≡ store_replies.Reply r → IsAnswered (base_of store.now) self.old self.new request r) }
         ensures kept { IfOk result (λ a. a ≡ store_replies.Reply replies.Committed → IsSafe (base_of store.now) self.new) }
         ensures still { told self.old ≤ told self.new }
-        ensures put_off { IfOk result (λ a. ((r : TheReply) → a ≢ store_replies.Reply r) → IsUnasked (base_of store.now) self.old self.new) }
+        ensures no_reply { IfOk result (λ a. ((r : TheReply) → a ≢ store_replies.Reply r) → IsUnasked (base_of store.now) self.old self.new) }
         ensures later { IfOk result (λ a. a ≡ store_replies.Later → IsBegin request × WasFree (base_of store.now) self.old self.new) }
         ensures unsure { IsErrOf result errors.Unsure → IsAnswered (base_of store.now) self.old self.new request replies.Committed }
         ensures unasked { (f : TheFault) → IsErrOf result (errors.Unasked f) → IsUnasked (base_of store.now) self.old self.new }
@@ -57,13 +57,10 @@ impl<S: EpochServer> StoreSession<S> {
             return Err(StoreError::Spent);
         }
         self.asks += 1;
-        let answer = self.ask_through(store, rt, alloc, request);
-        match answer {
+        match self.ask_through(store, rt, alloc, request) {
             Ok(reply) => Ok(reply),
-            Err(failure) => match failure {
-                Failure::Unsure => Err(StoreError::Unsure),
-                Failure::Unasked(fault) => Err(StoreError::Unasked(fault)),
-            },
+            Err(AskError::Unsure) => Err(StoreError::Unsure),
+            Err(AskError::Unasked(fault)) => Err(StoreError::Unasked(fault)),
         }
     }
 

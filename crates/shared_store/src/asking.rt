@@ -11,7 +11,7 @@ ghost use Rattle.shared_store.specs.Totals.{total_in};
 ghost use Rattle.shared_store.specs.Turning.{IsPutOff};
 
 use crate::answer::Answer;
-use crate::error::{Failure, Fault};
+use crate::error::{AskError, Fault};
 use crate::log_door::{Errand, Pass};
 use crate::reply::StoreReply;
 use crate::server::EpochServer;
@@ -32,7 +32,7 @@ impl<S: EpochServer> StoreSession<S> {
         rt: &R,
         alloc: Global,
         request: Request,
-    ) -> Result<StoreReply, Failure>
+    ) -> Result<StoreReply, AskError>
         requires session { IsSessionOf store.now self.old }
         requires turns { HasTurns 2 2 self.old }
         ensures session { IsSessionOf store.now self.new }
@@ -49,12 +49,12 @@ impl<S: EpochServer> StoreSession<S> {
                     return Ok(reply);
                 }
                 if !self.settle(store, rt, alloc, number) {
-                    return Err(Failure::Unsure);
+                    return Err(AskError::Unsure);
                 }
                 Ok(reply)
             }
-            Answer::Ending => Ok(StoreReply::Later),
-            Answer::Unasked(fault) => Err(Failure::Unasked(fault)),
+            Answer::Drained => Ok(StoreReply::Later),
+            Answer::Unasked(fault) => Err(AskError::Unasked(fault)),
         }
     }
 
@@ -77,7 +77,7 @@ impl<S: EpochServer> StoreSession<S> {
         ensures put_off { IsPutOff result → IsBegin request × SeesFree (base_of store.now) self.old.session (view_of self.old.seat) (view_of self.new.seat) }
     {
         let first = self.ask_once(store, rt, alloc, request);
-        let Answer::Ending = first else {
+        let Answer::Drained = first else {
             return first;
         };
         if let Err(fault) = self.end_epoch(store, rt, alloc) {
@@ -144,8 +144,8 @@ impl<S: EpochServer> StoreSession<S> {
         if matches!(pass, Pass::Write(_)) {
             store.log_door.gather(rt);
         }
-        let keeper = store.log_turn.enter(rt, &mut self.log_seat);
-        let keeper = keeper.write_out(rt, alloc, &store.turn, self.session, number);
+        let mut keeper = store.log_turn.enter(rt, &mut self.log_seat);
+        keeper.write_out(rt, alloc, &store.turn, self.session, number);
         let (kept, failed) = (keeper.total, keeper.failed);
         store.log_turn.leave(&mut self.log_seat, keeper);
         store.log_door.leave(rt, pass, kept, failed);

@@ -1,12 +1,13 @@
 //! How a store is closed.
 
-ghost use Rattle.std.specs.Prelude.{◌≡◌, ◌≤◌, [], false, All, IfErr, OnOk, map};
+ghost use Rattle.std.specs.Prelude.{◌≡◌, ◌≤◌, false, All, MatchResult, map};
 ghost use Rattle.teb_rules.specs.declared.names.TheConstants.{SESSIONS};
 ghost use Rattle.turn_lock.specs.Counts.{HasAll};
 ghost use Rattle.shared_store.specs.declared.entry.TheConstants.{LOG_SEAT};
-ghost use Rattle.shared_store.specs.Closing.{IsKeptToTheEnd, LeadsToServer};
+ghost use Rattle.shared_store.specs.Closing.{IsKeptToTheEnd};
+ghost use Rattle.shared_store.specs.Ending.{LeadsToServer};
 ghost use Rattle.shared_store.specs.Lives.{owner_of, taken_of};
-ghost use Rattle.shared_store.specs.Reasons.{IsReason};
+ghost use Rattle.shared_store.specs.Reasons.{IsCheckpointed, IsReason};
 ghost use Rattle.shared_store.specs.Sharing.{base_of, IsSessionOf, IsWithin, number_of};
 
 use crate::entry::LifeEntry;
@@ -47,10 +48,8 @@ impl<S: EpochServer> Store<S> {
         ensures sessions { All (IsWithin result.life.items) sessions.items }
         ensures kept { IsKeptToTheEnd (S.keeps result.log) (base_of self) (S.failed result.log) result.life.items sessions.items }
         ensures all { S.failed result.log ≡ false → taken_of result.life.items ≡ result.life.items }
-        ensures begun { OnOk result.checkpoint ((S.standing result.server).events ≡ []) }
-        ensures checkpoint { OnOk result.checkpoint (∥ S.keeps result.log (S.standing result.server).store [] 0 ∥₁) }
-        ensures running { OnOk result.checkpoint (S.failed result.log ≡ false) }
-        ensures reason { IfErr result.checkpoint (IsReason (S.failed result.log) (S.standing result.server).events) }
+        ensures checkpoint { MatchResult result.checkpoint (λ _. IsCheckpointed (S.keeps result.log) (S.failed result.log) (S.standing result.server))
+            (IsReason (S.failed result.log) (S.standing result.server).events) }
     {
         let Store { turn, log_turn, .. } = self;
         let (mut seat, mut log_seat) = sessions.pop().unwrap().into_seats();

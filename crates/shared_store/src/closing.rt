@@ -1,15 +1,15 @@
 //! How the life of a store ends.
 
-ghost use Rattle.std.specs.Prelude.{◌≡◌, ◌≤◌, [], false, IfErr, OnOk};
+ghost use Rattle.std.specs.Prelude.{◌≡◌, ◌≤◌, false, MatchResult};
 ghost use Rattle.teb_rules.specs.declared.names.TheConstants.{SESSIONS};
 ghost use Rattle.shared_store.specs.Ending.{AddsNoCalls, IsKeptAfter, LeadsToServer};
 ghost use Rattle.shared_store.specs.Holding.{IsKept};
 ghost use Rattle.shared_store.specs.Lives.{taken_of};
-ghost use Rattle.shared_store.specs.Reasons.{IsReason};
+ghost use Rattle.shared_store.specs.Reasons.{IsCheckpointed, IsReason};
 ghost use Rattle.shared_store.specs.Stages.{first_stage};
 
 use crate::close::Closed;
-use crate::due_epoch::WrittenEpoch;
+use crate::due_epoch::{NextEpoch, WrittenEpoch};
 use crate::entry::LOG_SEAT;
 use crate::error::Fault;
 use crate::hosted::Hosted;
@@ -18,6 +18,16 @@ use crate::running::{FailedLog, RunningLog, WrittenLog};
 use crate::server::EpochServer;
 use std::alloc::Global;
 use teb_rules::names::{Reply, Request, SESSIONS, Session};
+
+/// A server with its life, and its log, at the end of a closing.
+#[derive(Drop)]
+pub(crate) struct LastEpoch<S: EpochServer> {
+    hosted: Hosted<S>,
+    log: S::Log,
+    /// `Ok` if the epoch has ended with a checkpoint. Else it goes on.
+    checkpoint: Result<(), NoCheckpoint>,
+    ghost taken: { S.failed log ≡ false → taken_of hosted.entries.items ≡ hosted.entries.items },
+}
 
 impl<S: EpochServer> Hosted<S> {
     /// The server, the log and the life at the end. Unless the log has failed, the transaction of each session that holds one is ended, what
@@ -28,12 +38,14 @@ impl<S: EpochServer> Hosted<S> {
         ensures more { AddsNoCalls self.entries.items result.life.items }
         ensures kept { IsKeptAfter (S.keeps result.log) (first_stage (S.standing self.first.value)) (S.failed result.log) total result.life.items }
         ensures all { S.failed result.log ≡ false → taken_of result.life.items ≡ result.life.items }
-        ensures begun { OnOk result.checkpoint ((S.standing result.server).events ≡ []) }
-        ensures checkpoint { OnOk result.checkpoint (∥ S.keeps result.log (S.standing result.server).store [] 0 ∥₁) }
-        ensures running { OnOk result.checkpoint (S.failed result.log ≡ false) }
-        ensures reason { IfErr result.checkpoint (IsReason (S.failed result.log) (S.standing result.server).events) }
+        ensures checkpoint { MatchResult result.checkpoint (λ _. IsCheckpointed (S.keeps result.log) (S.failed result.log) (S.standing result.server))
+            (IsReason (S.failed result.log) (S.standing result.server).events) }
     {
-        let (hosted, log, checkpoint) = self.run_down(alloc, log, total);
+        let LastEpoch {
+            hosted,
+            log,
+            checkpoint,
+        } = self.run_down(alloc, log, total);
         let Hosted {
             server,
             entries,
@@ -47,30 +59,23 @@ impl<S: EpochServer> Hosted<S> {
         }
     }
 
-    /// Ends the transaction of each session that holds one, writes what waits, and ends the epoch.
-    ///
-    /// # Errors
-    /// The epoch goes on. If the log had failed before, nothing is asked or written. If the End of a transaction has a fault, the rest is done
-    /// nevertheless, and what keeps the epoch from its end is told.
-    fn run_down(
-        self,
-        alloc: Global,
-        log: S::Log,
-        total: u64,
-    ) -> (Hosted<S>, S::Log, Result<(), NoCheckpoint>)
+    /// Ends the transaction of each session that holds one, writes what waits, and ends the epoch. If the log had failed before, nothing is
+    /// asked or written. If the End of a transaction has a fault, the rest is done nevertheless, and what keeps the epoch from its end is told.
+    fn run_down(self, alloc: Global, log: S::Log, total: u64) -> LastEpoch<S>
         requires kept { ∥ IsKept (S.keeps log) (first_stage (S.standing self.first.value)) (S.failed log) total self.entries.items ∥₁ }
-        ensures first { result.0.first ≡ self.first }
-        ensures more { AddsNoCalls self.entries.items result.0.entries.items }
-        ensures kept { IsKeptAfter (S.keeps result.1) (first_stage (S.standing self.first.value)) (S.failed result.1) total result.0.entries.items }
-        ensures all { S.failed result.1 ≡ false → taken_of result.0.entries.items ≡ result.0.entries.items }
-        ensures begun { OnOk result.2 ((S.standing result.0.server).events ≡ []) }
-        ensures checkpoint { OnOk result.2 (∥ S.keeps result.1 (S.standing result.0.server).store [] 0 ∥₁) }
-        ensures running { OnOk result.2 (S.failed result.1 ≡ false) }
-        ensures reason { IfErr result.2 (IsReason (S.failed result.1) (S.standing result.0.server).events) }
+        ensures first { result.hosted.first ≡ self.first }
+        ensures more { AddsNoCalls self.entries.items result.hosted.entries.items }
+        ensures kept { IsKeptAfter (S.keeps result.log) (first_stage (S.standing self.first.value)) (S.failed result.log) total result.hosted.entries.items }
+        ensures checkpoint { MatchResult result.checkpoint (λ _. IsCheckpointed (S.keeps result.log) (S.failed result.log) (S.standing result.hosted.server))
+            (IsReason (S.failed result.log) (S.standing result.hosted.server).events) }
     {
         let failed = S::has_failed(&log);
         if failed {
-            return (self, log, Err(NoCheckpoint::Failed(Fault::Stopped)));
+            return LastEpoch {
+                hosted: self,
+                log,
+                checkpoint: Err(NoCheckpoint::Failed(Fault::Stopped)),
+            };
         }
         let mut hosted = self;
         let _ended = hosted.end_all(alloc);
@@ -112,21 +117,15 @@ impl<S: EpochServer> Hosted<S> {
 
 impl<S: EpochServer> RunningLog<S> {
     /// Writes what waits, and ends the epoch.
-    ///
-    /// # Errors
-    /// The epoch goes on.
-    fn write_and_end(self, alloc: Global) -> (Hosted<S>, S::Log, Result<(), NoCheckpoint>)
-        ensures first { result.0.first ≡ self.hosted.first }
-        ensures more { AddsNoCalls self.hosted.entries.items result.0.entries.items }
-        ensures kept { IsKeptAfter (S.keeps result.1) (first_stage (S.standing self.hosted.first.value)) (S.failed result.1) self.total result.0.entries.items }
-        ensures all { taken_of result.0.entries.items ≡ result.0.entries.items }
-        ensures begun { OnOk result.2 ((S.standing result.0.server).events ≡ []) }
-        ensures checkpoint { OnOk result.2 (∥ S.keeps result.1 (S.standing result.0.server).store [] 0 ∥₁) }
-        ensures running { OnOk result.2 (S.failed result.1 ≡ false) }
-        ensures reason { IfErr result.2 (IsReason (S.failed result.1) (S.standing result.0.server).events) }
+    fn write_and_end(self, alloc: Global) -> LastEpoch<S>
+        ensures first { result.hosted.first ≡ self.hosted.first }
+        ensures more { AddsNoCalls self.hosted.entries.items result.hosted.entries.items }
+        ensures kept { IsKeptAfter (S.keeps result.log) (first_stage (S.standing self.hosted.first.value)) (S.failed result.log) self.total result.hosted.entries.items }
+        ensures checkpoint { MatchResult result.checkpoint (λ _. IsCheckpointed (S.keeps result.log) (S.failed result.log) (S.standing result.hosted.server))
+            (IsReason (S.failed result.log) (S.standing result.hosted.server).events) }
     {
-        match self.write(alloc) {
-            Ok(written) => written.end_epoch(alloc),
+        let written = match self.write(alloc) {
+            Ok(written) => written,
             Err(failed) => {
                 let FailedLog {
                     hosted,
@@ -134,36 +133,44 @@ impl<S: EpochServer> RunningLog<S> {
                     fault,
                     ..
                 } = failed;
-                (hosted, log, Err(NoCheckpoint::Failed(fault)))
+                return LastEpoch {
+                    hosted,
+                    log,
+                    checkpoint: Err(NoCheckpoint::Failed(fault)),
+                };
             }
-        }
+        };
+        written.end_epoch(alloc)
     }
 }
 
 impl<S: EpochServer> WrittenLog<S> {
-    /// Ends the epoch.
-    ///
-    /// # Errors
-    /// The epoch goes on: something keeps it from its end, or the next one did not begin.
-    fn end_epoch(self, alloc: Global) -> (Hosted<S>, S::Log, Result<(), NoCheckpoint>)
-        ensures first { result.0.first ≡ self.hosted.first }
-        ensures more { AddsNoCalls self.hosted.entries.items result.0.entries.items }
-        ensures kept { ∥ IsKept (S.keeps result.1) (first_stage (S.standing self.hosted.first.value)) false self.hosted.commits result.0.entries.items ∥₁ }
-        ensures all { taken_of result.0.entries.items ≡ result.0.entries.items }
-        ensures begun { OnOk result.2 ((S.standing result.0.server).events ≡ []) }
-        ensures checkpoint { OnOk result.2 (∥ S.keeps result.1 (S.standing result.0.server).store [] 0 ∥₁) }
-        ensures running { OnOk result.2 (S.failed result.1 ≡ false) }
-        ensures reason { IfErr result.2 (IsReason (S.failed result.1) (S.standing result.0.server).events) }
+    /// Ends the epoch, unless something keeps it from its end, or the next one does not begin.
+    fn end_epoch(self, alloc: Global) -> LastEpoch<S>
+        ensures first { result.hosted.first ≡ self.hosted.first }
+        ensures more { AddsNoCalls self.hosted.entries.items result.hosted.entries.items }
+        ensures kept { ∥ IsKept (S.keeps result.log) (first_stage (S.standing self.hosted.first.value)) false self.hosted.commits result.hosted.entries.items ∥₁ }
+        ensures checkpoint { MatchResult result.checkpoint (λ _. IsCheckpointed (S.keeps result.log) (S.failed result.log) (S.standing result.hosted.server))
+            (IsReason (S.failed result.log) (S.standing result.hosted.server).events) }
     {
         if let Some(obstacle) = self.hosted.server.obstacle() {
             let WrittenLog { hosted, log } = self;
-            return (hosted, log, Err(NoCheckpoint::Held(obstacle)));
+            return LastEpoch {
+                hosted,
+                log,
+                checkpoint: Err(NoCheckpoint::Held(obstacle)),
+            };
         }
         let epoch = WrittenEpoch { written: self };
-        let (hosted, log, begun) = epoch.turned(alloc);
-        match begun {
-            Ok(()) => (hosted, log, Ok(())),
-            Err(fault) => (hosted, log, Err(NoCheckpoint::Failed(fault))),
+        let NextEpoch { hosted, log, begun } = epoch.begin_next(alloc);
+        let checkpoint = match begun {
+            Ok(()) => Ok(()),
+            Err(fault) => Err(NoCheckpoint::Failed(fault)),
+        };
+        LastEpoch {
+            hosted,
+            log,
+            checkpoint,
         }
     }
 }

@@ -1,11 +1,11 @@
 //! How an epoch ends.
 
-ghost use Rattle.std.specs.Prelude.{◌≡◌, ◌≤◌, [], true, false, IfErr, OnOk};
+ghost use Rattle.std.specs.Prelude.{◌≡◌, ◌≤◌, true, false, MatchResult};
 ghost use Rattle.shared_store.specs.declared.entry.TheConstants.{LOG_SEAT};
 ghost use Rattle.shared_store.specs.Ending.{AddsNoCalls};
 ghost use Rattle.shared_store.specs.Holding.{IsKept};
 ghost use Rattle.shared_store.specs.Lives.{taken_of};
-ghost use Rattle.shared_store.specs.Reasons.{IsCause};
+ghost use Rattle.shared_store.specs.Reasons.{IsCause, IsCheckpointed};
 ghost use Rattle.shared_store.specs.Served.{IsDrained};
 ghost use Rattle.shared_store.specs.Stages.{first_stage};
 ghost use Rattle.shared_store.specs.Turning.{GrowsBy};
@@ -32,53 +32,64 @@ pub(crate) struct WrittenEpoch<S: EpochServer> {
     ghost drained: { IsDrained (S.standing written.hosted.server).events },
 }
 
+/// A server with its life, and its log, after the next epoch was to begin. The log keeps all commits of the life.
+#[derive(Drop)]
+pub(crate) struct NextEpoch<S: EpochServer> {
+    pub(crate) hosted: Hosted<S>,
+    pub(crate) log: S::Log,
+    /// An error if the last epoch goes on. The log may have failed then.
+    pub(crate) begun: Result<(), Fault>,
+    ghost kept: { ∥ IsKept (S.keeps log) (first_stage (S.standing hosted.first.value)) false hosted.commits hosted.entries.items ∥₁ },
+    ghost taken: { taken_of hosted.entries.items ≡ hosted.entries.items },
+}
+
+/// A server with its life, and its log, after an epoch was to end.
+#[derive(Drop)]
+pub(crate) struct EndedEpoch<S: EpochServer> {
+    pub(crate) hosted: Hosted<S>,
+    pub(crate) log: S::Log,
+    /// How many commits of the life the log keeps.
+    pub(crate) total: u64,
+    /// True if the log has failed.
+    pub(crate) failed: bool,
+    /// An error if the epoch could not be ended. It goes on then.
+    pub(crate) ended: Result<(), Fault>,
+    ghost running: { S.failed log ≡ failed },
+    ghost kept: { ∥ IsKept (S.keeps log) (first_stage (S.standing hosted.first.value)) failed total hosted.entries.items ∥₁ },
+}
+
 impl<S: EpochServer> RunningLog<S> {
-    /// Ends the epoch at the turn of the log's seat, if it is to end and nothing keeps it from that. It returns how many commits the log keeps
-    /// then, and whether it has failed.
-    ///
-    /// # Errors
-    /// The epoch goes on.
-    pub(crate) fn end_if_due(
-        self,
-        alloc: Global,
-    ) -> (Hosted<S>, S::Log, u64, bool, Result<(), Fault>)
-        ensures grows { GrowsBy LOG_SEAT self.hosted.entries.items result.0.entries.items }
-        ensures first { result.0.first ≡ self.hosted.first }
-        ensures kept { ∥ IsKept (S.keeps result.1) (first_stage (S.standing self.hosted.first.value)) result.3 result.2 result.0.entries.items ∥₁ }
-        ensures running { S.failed result.1 ≡ result.3 }
-        ensures more { self.total ≤ result.2 }
+    /// Ends the epoch at the turn of the log's seat, if it is to end and nothing keeps it from its end.
+    pub(crate) fn end_if_due(self, alloc: Global) -> EndedEpoch<S>
+        ensures grows { GrowsBy LOG_SEAT self.hosted.entries.items result.hosted.entries.items }
+        ensures first { result.hosted.first ≡ self.hosted.first }
+        ensures more { self.total ≤ result.total }
     {
         if self.hosted.can_end() {
             let due = DueEpoch { running: self };
             return due.end(alloc);
         }
         let RunningLog { hosted, log, total } = self;
-        (hosted, log, total, false, Ok(()))
+        EndedEpoch {
+            hosted,
+            log,
+            total,
+            failed: false,
+            ended: Ok(()),
+        }
     }
 }
 
 impl<S: EpochServer> DueEpoch<S> {
-    /// Writes what waits, and ends the epoch. It returns how many commits the log keeps then, and whether it has failed.
-    ///
-    /// # Errors
-    /// The epoch goes on.
-    pub(crate) fn end(self, alloc: Global) -> (Hosted<S>, S::Log, u64, bool, Result<(), Fault>)
-        ensures grows { GrowsBy LOG_SEAT self.running.hosted.entries.items result.0.entries.items }
-        ensures first { result.0.first ≡ self.running.hosted.first }
-        ensures kept { ∥ IsKept (S.keeps result.1) (first_stage (S.standing self.running.hosted.first.value)) result.3 result.2 result.0.entries.items ∥₁ }
-        ensures running { S.failed result.1 ≡ result.3 }
-        ensures more { self.running.total ≤ result.2 }
+    /// Writes what waits, and ends the epoch. If the log fails, the front is told.
+    fn end(self, alloc: Global) -> EndedEpoch<S>
+        ensures grows { GrowsBy LOG_SEAT self.running.hosted.entries.items result.hosted.entries.items }
+        ensures first { result.hosted.first ≡ self.running.hosted.first }
+        ensures more { self.running.total ≤ result.total }
     {
         let DueEpoch { running } = self;
-        match running.write(alloc) {
-            Ok(written) => {
-                let commits = written.hosted.commits;
-                let epoch = WrittenEpoch { written };
-                let (mut hosted, log, begun) = epoch.turned(alloc);
-                let failed = S::has_failed(&log);
-                hosted.stop_if(failed);
-                (hosted, log, commits, failed, begun)
-            }
+        let written = match running.write(alloc) {
+            Ok(written) => written,
             Err(failed) => {
                 let FailedLog {
                     mut hosted,
@@ -87,28 +98,42 @@ impl<S: EpochServer> DueEpoch<S> {
                     fault,
                 } = failed;
                 hosted.stop();
-                (hosted, log, total, true, Err(fault))
+                return EndedEpoch {
+                    hosted,
+                    log,
+                    total,
+                    failed: true,
+                    ended: Err(fault),
+                };
             }
+        };
+        let total = written.hosted.commits;
+        let epoch = WrittenEpoch { written };
+        let NextEpoch {
+            mut hosted,
+            log,
+            begun,
+        } = epoch.begin_next(alloc);
+        let failed = S::has_failed(&log);
+        hosted.stop_if(failed);
+        EndedEpoch {
+            hosted,
+            log,
+            total,
+            failed,
+            ended: begun,
         }
     }
 }
 
 impl<S: EpochServer> WrittenEpoch<S> {
     /// Ends the epoch, and begins the next one.
-    ///
-    /// # Errors
-    /// The epoch goes on. The log keeps what it kept; it may have failed.
-    pub(crate) fn turned(self, alloc: Global) -> (Hosted<S>, S::Log, Result<(), Fault>)
-        ensures grows { GrowsBy LOG_SEAT self.written.hosted.entries.items result.0.entries.items }
-        ensures first { result.0.first ≡ self.written.hosted.first }
-        ensures same { result.0.commits ≡ self.written.hosted.commits }
-        ensures kept { ∥ IsKept (S.keeps result.1) (first_stage (S.standing self.written.hosted.first.value)) false self.written.hosted.commits result.0.entries.items ∥₁ }
-        ensures running { OnOk result.2 (S.failed result.1 ≡ false) }
-        ensures begun { OnOk result.2 ((S.standing result.0.server).events ≡ []) }
-        ensures checkpoint { OnOk result.2 (∥ S.keeps result.1 (S.standing result.0.server).store [] 0 ∥₁) }
-        ensures cause { IfErr result.2 (IsCause (S.failed result.1) (S.standing result.0.server).events) }
-        ensures all { taken_of result.0.entries.items ≡ result.0.entries.items }
-        ensures calls { AddsNoCalls self.written.hosted.entries.items result.0.entries.items }
+    pub(crate) fn begin_next(self, alloc: Global) -> NextEpoch<S>
+        ensures grows { GrowsBy LOG_SEAT self.written.hosted.entries.items result.hosted.entries.items }
+        ensures calls { AddsNoCalls self.written.hosted.entries.items result.hosted.entries.items }
+        ensures same { (result.hosted.first ≡ self.written.hosted.first) × (result.hosted.commits ≡ self.written.hosted.commits) }
+        ensures begun { MatchResult result.begun (λ _. IsCheckpointed (S.keeps result.log) (S.failed result.log) (S.standing result.hosted.server))
+            (IsCause (S.failed result.log) (S.standing result.hosted.server).events) }
     {
         let WrittenEpoch { written } = self;
         let WrittenLog { hosted, log } = written;
@@ -122,32 +147,36 @@ impl<S: EpochServer> WrittenEpoch<S> {
             stopped,
         } = hosted;
         let (server, log, begun) = server.next_epoch(log, alloc);
-        match begun {
-            Ok(()) => {
-                entries.push(LifeEntry::Turned);
-                let hosted = Hosted {
-                    server,
-                    entries,
-                    first,
-                    notices,
-                    past: commits,
-                    commits,
-                    stopped,
-                };
-                (hosted, log, Ok(()))
-            }
-            Err(fault) => {
-                let hosted = Hosted {
-                    server,
-                    entries,
-                    first,
-                    notices,
-                    past,
-                    commits,
-                    stopped,
-                };
-                (hosted, log, Err(fault))
-            }
+        if let Err(fault) = begun {
+            let hosted = Hosted {
+                server,
+                entries,
+                first,
+                notices,
+                past,
+                commits,
+                stopped,
+            };
+            return NextEpoch {
+                hosted,
+                log,
+                begun: Err(fault),
+            };
+        }
+        entries.push(LifeEntry::EpochEnded);
+        let hosted = Hosted {
+            server,
+            entries,
+            first,
+            notices,
+            past: commits,
+            commits,
+            stopped,
+        };
+        NextEpoch {
+            hosted,
+            log,
+            begun: Ok(()),
         }
     }
 }

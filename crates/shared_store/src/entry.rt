@@ -18,9 +18,9 @@ pub enum LifeEntry {
         reply: Option<ShortReply>,
     },
     /// All commits that waited were taken, for the log to write.
-    Taken,
+    CommitsTaken,
     /// An epoch ended, and the next one began. Transactions count from 1 again.
-    Turned,
-    /// The log has failed. It is at the end of the list.
-    Stopped,
+    EpochEnded,
+    /// The log failed. Nothing is asked after it.
+    LogFailed,
 }

@@ -12,9 +12,9 @@ pub enum Fault {
     OutOfMemory,
 }
 
-/// Why a call has no reply.
+/// Why a call has no reply, other than that the session has made all its calls.
 #[derive(Clone, Copy)]
-pub(crate) enum Failure {
+pub(crate) enum AskError {
     /// Nothing was asked.
     Unasked(Fault),
     /// The log failed before it kept the commit.

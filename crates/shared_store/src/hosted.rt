@@ -10,7 +10,7 @@ ghost use Rattle.shared_store.specs.Holding.{IsBrought, IsLifeOf, IsWaiting, sta
 ghost use Rattle.shared_store.specs.Lives.{IsShortOf, owner_of, taken_of};
 ghost use Rattle.shared_store.specs.Served.{IsDrained};
 ghost use Rattle.shared_store.specs.Stages.{first_stage};
-ghost use Rattle.shared_store.specs.Turning.{Adds, AddsMarks, AddsResult, GrowsBy, IsNumbered, IsOfRules, IsPutOff};
+ghost use Rattle.shared_store.specs.Turning.{Adds, AddsForOthers, AddsResult, GrowsBy, IsNumbered, IsOfRules, IsPutOff};
 
 use crate::answer::Answer;
 use crate::entry::LifeEntry;
@@ -109,7 +109,7 @@ impl<S: EpochServer> Hosted<S> {
         }
         if self.is_late(session, request) {
             return match self.drain(alloc, session) {
-                Ok(true) => Answer::Ending,
+                Ok(true) => Answer::Drained,
                 Ok(false) => Answer::Reply(StoreReply::Later, self.commits),
                 Err(fault) => Answer::Unasked(fault),
             };
@@ -135,7 +135,7 @@ impl<S: EpochServer> Hosted<S> {
     /// Returns true if nothing keeps the epoch from its end. If only sessions do that were not told of an abort, other than this one, their
     /// transactions are ended for them.
     fn drain(&mut self, alloc: Global, by: Session) -> Result<bool, Fault>
-        ensures marks { AddsMarks by.0 self.old.entries.items self.new.entries.items }
+        ensures others { AddsForOthers by.0 self.old.entries.items self.new.entries.items }
         ensures first { self.new.first ≡ self.old.first }
     {
         for _ in 0..=SESSIONS {
@@ -146,9 +146,7 @@ impl<S: EpochServer> Hosted<S> {
                     if session.0 == by.0 {
                         return Ok(false);
                     }
-                    if let Err(fault) = self.end_for(alloc, by, session) {
-                        return Err(fault);
-                    }
+                    self.end_for(alloc, by, session)?;
                 }
             }
         }
@@ -163,16 +161,12 @@ impl<S: EpochServer> Hosted<S> {
         session: Session,
     ) -> Result<(), Fault>
         requires other { session.0 ≢ by.0 }
-        ensures marks { AddsMarks by.0 self.old.entries.items self.new.entries.items }
+        ensures others { AddsForOthers by.0 self.old.entries.items self.new.entries.items }
         ensures first { self.new.first ≡ self.old.first }
     {
-        match self.put(alloc, by, session, Request::End) {
-            Ok(reply) => {
-                self.keep_notice(session, &reply);
-                Ok(())
-            }
-            Err(fault) => Err(fault),
-        }
+        let reply = self.put(alloc, by, session, Request::End)?;
+        self.keep_notice(session, &reply);
+        Ok(())
     }
 
     /// Asks the server at the turn of session `by`, and adds an entry of what its history has.
@@ -211,14 +205,14 @@ impl<S: EpochServer> Hosted<S> {
 
     /// Takes the commits that wait, for the log to write.
     pub(crate) fn take(&mut self, alloc: Global) -> S::Batch
-        ensures entries { self.new.entries.items ≡ self.old.entries.items ++ entries.Taken ∷ [] }
+        ensures entries { self.new.entries.items ≡ self.old.entries.items ++ entries.CommitsTaken ∷ [] }
         ensures first { self.new.first ≡ self.old.first }
         ensures same { (S.standing self.new.server ≡ S.standing self.old.server) × (self.new.past ≡ self.old.past) × (self.new.commits ≡ self.old.commits) × (self.new.stopped ≡ self.old.stopped) }
         ensures waits { ∥ S.waits self.new.server (S.standing self.new.server).events ∥₁ }
         ensures brought { ∥ IsBrought (S.brings result) (first_stage (S.standing self.old.first.value)) self.new.commits self.old.entries.items self.new.entries.items ∥₁ }
     {
         let batch = self.server.take(alloc);
-        self.entries.push(LifeEntry::Taken);
+        self.entries.push(LifeEntry::CommitsTaken);
         batch
     }
 
@@ -250,11 +244,11 @@ impl<S: EpochServer> Hosted<S> {
 
     /// Keeps that the log has failed. Nothing is asked from then on.
     pub(crate) fn stop(&mut self)
-        ensures entries { self.new.entries.items ≡ self.old.entries.items ++ entries.Stopped ∷ [] }
+        ensures entries { self.new.entries.items ≡ self.old.entries.items ++ entries.LogFailed ∷ [] }
         ensures first { self.new.first ≡ self.old.first }
     {
         self.stopped = true;
-        self.entries.push(LifeEntry::Stopped);
+        self.entries.push(LifeEntry::LogFailed);
     }
 
     /// Keeps how a transaction was ended, if it was, for its session.

@@ -4,8 +4,8 @@ use std::sync::{Condvar, Mutex, MutexGuard, Wait};
 use std::{hint, thread};
 use teb_rules::names::{SESSIONS, Session};
 
-/// A place for each session, by its number.
-const PLACES: usize = SESSIONS as usize + 1;
+/// An entry for each session, by its number.
+const VISITORS: usize = SESSIONS as usize + 1;
 
 /// How often the session that writes looks at the door, at most, until another one comes.
 const LOOKS: u32 = 16;
@@ -26,7 +26,7 @@ pub(crate) struct LogDoor {
 /// What sessions at the door know of each other.
 #[derive(Drop)]
 pub(crate) struct Waiting {
-    places: [Place; PLACES],
+    visitors: [Visitor; VISITORS],
     is_writing: bool,
     /// How many writes there were, and two more.
     writes: u64,
@@ -45,9 +45,9 @@ pub(crate) enum Errand {
     EpochEnd,
 }
 
-/// What is known of a session.
+/// What the door knows of a session.
 #[derive(Clone, Copy, Drop)]
-struct Place {
+struct Visitor {
     /// For what it is at the door, if it is there.
     errand: Option<Errand>,
     /// The last write that has served it, by its number; 0 if none has.
@@ -75,7 +75,7 @@ impl Waiting {
 
     /// True if a session is at the door that the last write has served.
     fn is_any_leaving(&self) -> bool {
-        self.places.iter().any(|place| match place.errand {
+        self.visitors.iter().any(|visitor| match visitor.errand {
             Some(errand) => self.is_settled(errand),
             None => false,
         })
@@ -83,30 +83,30 @@ impl Waiting {
 
     /// True if each session that one of the last two writes has served is at the door again.
     fn are_gathered(&self) -> bool {
-        self.places.iter().all(|place| place.errand.is_some()
-            || 2 <= self.writes.wrapping_sub(place.served))
+        self.visitors.iter().all(|visitor| visitor.errand.is_some()
+            || 2 <= self.writes.wrapping_sub(visitor.served))
     }
 
     /// How many sessions are at the door.
     fn present(&self) -> usize {
-        self.places
+        self.visitors
             .iter()
-            .filter(|place| place.errand.is_some())
+            .filter(|visitor| visitor.errand.is_some())
             .count()
     }
 
     /// Notes for what a session is at the door.
     fn arrive(&mut self, session: Session, errand: Errand) {
-        if let Some(place) = self.places.get_mut(usize::from(session.0)) {
-            place.errand = Some(errand);
+        if let Some(visitor) = self.visitors.get_mut(usize::from(session.0)) {
+            visitor.errand = Some(errand);
         }
     }
 
     /// Notes that a session goes out, which the last write has served.
     fn depart(&mut self, session: Session) {
         let served = self.writes;
-        if let Some(place) = self.places.get_mut(usize::from(session.0)) {
-            *place = Place {
+        if let Some(visitor) = self.visitors.get_mut(usize::from(session.0)) {
+            *visitor = Visitor {
                 errand: None,
                 served,
             };
@@ -117,13 +117,13 @@ impl Waiting {
 impl LogDoor {
     /// Returns a door at which nobody is.
     pub(crate) fn new() -> LogDoor {
-        let place = Place {
+        let visitor = Visitor {
             errand: None,
             served: 0,
         };
         LogDoor {
             waiting: Mutex::new(Waiting {
-                places: [place; PLACES],
+                visitors: [visitor; VISITORS],
                 is_writing: false,
                 writes: 2,
                 kept: 0,
@@ -155,7 +155,7 @@ impl LogDoor {
     /// or none has come for a moment.
     pub(crate) fn gather<R: Wait>(&self, rt: &R) {
         let mut last = 0;
-        for _ in 0..PLACES {
+        for _ in 0..VISITORS {
             let Some(present) = self.await_another(rt, last) else {
                 return;
             };

@@ -4,6 +4,7 @@ ghost use Rattle.std.specs.Prelude.{◌≡◌};
 ghost use Rattle.shared_store.specs.Keeping.{place_of, tells_in, IsLogOf};
 ghost use Rattle.shared_store.specs.Totals.{TellsBy};
 
+use crate::due_epoch::EndedEpoch;
 use crate::error::Fault;
 use crate::hosted::Hosted;
 use crate::keeper::Keeper;
@@ -21,56 +22,30 @@ impl<S: EpochServer> Keeper<S> {
     /// writes them. Sessions may ask at the front while it writes. If the log fails, the front is told. Nothing is done if it has failed, or
     /// has spent its turns.
     pub(crate) fn write_out<R: Wait>(
-        self,
+        &mut self,
         rt: &R,
         alloc: Global,
         turn: &Turn<Hosted<S>>,
         by: Session,
         number: u64,
-    ) -> Keeper<S>
-        requires seat { IsLogOf turn.now self }
-        ensures place { place_of result ≡ place_of self }
-        ensures tells { TellsBy by.0 (tells_in self) (tells_in result) }
+    )
+        requires seat { IsLogOf turn.now self.old }
+        ensures place { place_of self.new ≡ place_of self.old }
+        ensures tells { TellsBy by.0 (tells_in self.old) (tells_in self.new) }
     {
-        let Keeper {
-            mut log,
-            mut seat,
-            turns,
-            total,
-            failed,
-            mut entries,
-        } = self;
-        if failed || number <= total || turns < 2 {
-            return Keeper {
-                log,
-                seat,
-                turns,
-                total,
-                failed,
-                entries,
-            };
+        if self.failed || number <= self.total || self.turns < 2 {
+            return;
         }
-        let (batch, commits) = take_batch(rt, alloc, turn, &mut seat);
-        if let Err(_fault) = S::write(&mut log, alloc, batch) {
-            stop_front(rt, turn, &mut seat);
-            return Keeper {
-                log,
-                seat,
-                turns: turns - 2,
-                total,
-                failed: true,
-                entries,
-            };
+        let (batch, commits) = take_batch(rt, alloc, turn, &mut self.seat);
+        if let Err(_fault) = S::write(&mut self.log, alloc, batch) {
+            stop_front(rt, turn, &mut self.seat);
+            self.turns -= 2;
+            self.failed = true;
+            return;
         }
-        entries.push(Kept { by, total: commits });
-        Keeper {
-            log,
-            seat,
-            turns: turns - 1,
-            total: commits,
-            failed: false,
-            entries,
-        }
+        self.turns -= 1;
+        self.total = commits;
+        self.entries.push(Kept { by, total: commits });
     }
 
     /// Looks at the front whether the epoch is to end, and nothing keeps it from its end. If so, it takes the commits that wait, writes them,
@@ -89,28 +64,26 @@ impl<S: EpochServer> Keeper<S> {
         ensures place { place_of result.0 ≡ place_of self }
         ensures tells { TellsBy by.0 (tells_in self) (tells_in result.0) }
     {
+        if self.failed || self.turns == 0 {
+            return (self, Err(Fault::Stopped));
+        }
         let Keeper {
             log,
             mut seat,
             turns,
             total,
-            failed,
             mut entries,
+            ..
         } = self;
-        if failed || turns == 0 {
-            let same = Keeper {
-                log,
-                seat,
-                turns,
-                total,
-                failed,
-                entries,
-            };
-            return (same, Err(Fault::Stopped));
-        }
         let hosted = turn.enter(rt, &mut seat);
         let running = RunningLog { hosted, log, total };
-        let (hosted, log, total, failed, ended) = running.end_if_due(alloc);
+        let EndedEpoch {
+            hosted,
+            log,
+            total,
+            failed,
+            ended,
+        } = running.end_if_due(alloc);
         turn.leave(&mut seat, hosted);
         entries.push(Kept { by, total });
         let keeper = Keeper {

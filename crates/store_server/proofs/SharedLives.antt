@@ -12,7 +12,7 @@ use Rattle.engine_store.specs.Lives.{Epoch, IsLife, epoch_of, epochs}
 use Rattle.engine_store.proofs.LifeGoesOn.{followed, lives_further}
 use Rattle.engine_store.proofs.WholeLife.{lives_are_serial}
 use Rattle.shared_store.specs.declared.entry.LifeEntry.{LifeEntry}
-use Rattle.shared_store.specs.declared.entry.LifeEntry.TheVariants.{Asked, Stopped, Taken, Turned}
+use Rattle.shared_store.specs.declared.entry.LifeEntry.TheVariants.{Asked, LogFailed, CommitsTaken, EpochEnded}
 use Rattle.shared_store.specs.Lives.{Runs}
 use Rattle.shared_store.specs.Stages.{IsNextEpoch, Stage}
 use Rattle.store_server.specs.Serial.{SharedLivesAreSerial, stage_at}
@@ -55,15 +55,15 @@ module _ (T : Values) where
       let f : EngineModel = record { store = e.store; names = e.names; events = (answer e.store e.events s q).1; ready = e.ready } in
       reaches past f r.0 h es (store ∙ ap (λ (k : Stage). k.standing.store) (sym r.1.next)) ((λ i. (answer (store i) (events i) s q).1) ∙ ap (λ (k : Stage). k.standing.events) (sym r.1.next))
       (lives_further T past e f s q (Some (answer e.store e.events s q).0) refl refl life) r.2
-  reaches past e g h (Taken ∷ es) store events life r =
+  reaches past e g h (CommitsTaken ∷ es) store events life r =
       reaches past e r.0 h es (store ∙ ap (λ (k : Stage). k.standing.store) (sym r.1)) (events ∙ ap (λ (k : Stage). k.standing.events) (sym r.1)) life r.2
-  reaches past e g h (Turned ∷ es) store events life r =
+  reaches past e g h (EpochEnded ∷ es) store events life r =
       let m = r.0 in
       let n = r.1 in
       let f : EngineModel = record { store = m.standing.store; names = e.names; events = []; ready = e.ready } in
       one_more past (epoch_of e) h (reaches (past ++ epoch_of e ∷ []) f m h es refl (sym n.begun.events)
       (followed T past e f (next_engine g m e store life.engine n) (λ (x : Cell). n.begun.rows.each x ∙ (λ i. final_table (sym store i) (sym events i) x)) life) r.2)
-  reaches past e g h (Stopped ∷ es) store events life r =
+  reaches past e g h (LogFailed ∷ es) store events life r =
       reaches past e r.0 h es (store ∙ ap (λ (k : Stage). k.standing.store) (sym r.1)) (events ∙ ap (λ (k : Stage). k.standing.events) (sym r.1)) life r.2
 
 pub shared_lives : SharedLivesAreSerial

@@ -10,8 +10,8 @@ use Rattle.file_disk.specs.declared.disk.FileDisk.{FileDisk}
 use Rattle.engine_store.specs.Opening.{IsRefused}
 use Rattle.engine_store.specs.declared.open_error.OpenError.{OpenError}
 use Rattle.store_server.specs.Found.{layout_under}
-use Rattle.store_server.specs.declared.error.ServeError.{ServeError}
-use Rattle.store_server.specs.declared.error.ServeError.TheVariants.{BadTree, NotOpened}
+use Rattle.store_server.specs.declared.error.OpenStoreError.{OpenStoreError}
+use Rattle.store_server.specs.declared.error.OpenStoreError.TheVariants.{BadTree, Disk}
 
 module _ {D : Type 0} (seen : D → List ℕ) (may_leave : D → List ℕ → Type 0) (moment : D → ℕ) (left_since : D → ℕ → List ℕ → Type 0) (faults capacity : D → ℕ)
     (text : List ℕ) (disk back : D) where
@@ -22,15 +22,15 @@ module _ {D : Type 0} (seen : D → List ℕ) (may_leave : D → List ℕ → Ty
     pub refused : IsRefused seen may_leave moment left_since faults capacity (layout_under (capacity disk) view) (row_of view.rows) (length view.tables) disk back why
 
   -- what is so if a disk is handed back for this reason; the fault of a refused text is the one that its rules give
-  abbrev pub IsNotServed : ServeError → Type 0
-  IsNotServed (BadTree fault) = (back ≡ disk) × UnlessMemory fault (setup_of_text text ≡ Err fault)
-  IsNotServed (NotOpened why) = IsNoStore why
+  abbrev pub IsNotOpened : OpenStoreError → Type 0
+  IsNotOpened (BadTree fault) = (back ≡ disk) × UnlessMemory fault (setup_of_text text ≡ Err fault)
+  IsNotOpened (Disk why) = IsNoStore why
 
 -- what is so if a file is refused for this reason: it was a disk of that capacity, all of whose bytes were safe
-pub record IsFileRefused (capacity : ℕ) (text : List ℕ) (why : ServeError) : Type 0 where
+pub record IsFileRefused (capacity : ℕ) (text : List ℕ) (why : OpenStoreError) : Type 0 where
   pub disk : FileDisk
   pub back : FileDisk
   pub safe : Only (contents disk.mirror.log.steps) (MayLeave disk.mirror.log.steps)
   pub size : disk.mirror.capacity ≡ capacity
-  pub refused : IsNotServed (λ (d : FileDisk). contents d.mirror.log.steps) (λ (d : FileDisk). MayLeave d.mirror.log.steps) (λ (d : FileDisk). length d.mirror.log.steps)
+  pub refused : IsNotOpened (λ (d : FileDisk). contents d.mirror.log.steps) (λ (d : FileDisk). MayLeave d.mirror.log.steps) (λ (d : FileDisk). length d.mirror.log.steps)
       (λ (d : FileDisk). LeftSince d.mirror.log.steps) (λ (d : FileDisk). d.faults.count) (λ (d : FileDisk). d.mirror.capacity) text disk back why

@@ -7,19 +7,20 @@ use tree_toml::TreeText;
 
 /// Why a store is not opened.
 #[derive(Debug, Drop, Error)]
-pub enum ServeError {
+pub enum OpenStoreError {
     /// The tree text is refused, or memory ran out while it was read.
     #[error("the tree text is wrong: {0:?}")]
     BadTree(TreeText),
+    /// The disk is no store under the tables of the tree, a call of it failed, or memory is out.
     #[error("{0}")]
-    NotOpened(OpenError),
+    Disk(OpenError),
 }
 
 /// A disk that was not opened, and why.
 #[derive(Drop)]
-pub struct NotServed<D> {
+pub struct NotOpened<D> {
     pub disk: D,
-    pub why: ServeError,
+    pub why: OpenStoreError,
 }
 
 /// Why a store in a file is not opened.
@@ -33,7 +34,7 @@ pub enum OpenFileError {
     File(FileError),
     /// The tree text is refused, or the store that the file has is not opened.
     #[error("{0}")]
-    NotServed(ServeError),
+    Store(OpenStoreError),
     #[error("out of memory")]
     OutOfMemory,
 }

@@ -5,7 +5,7 @@ ghost use Rattle.teb_rules.specs.history.Phases.{numbers};
 ghost use Rattle.shared_store.specs.Sharing.{base_of, IsNew, number_of};
 ghost use Rattle.store_server.specs.Opened.{IsOpened};
 ghost use Rattle.store_server.specs.Refused.{IsFileRefused};
-ghost use Rattle.store_server.specs.declared.error.ServeError.{ServeError as TheServeError};
+ghost use Rattle.store_server.specs.declared.error.OpenStoreError.{OpenStoreError as TheOpenError};
 ghost use Rattle.store_server.specs.declared.error.OpenFileError.TheVariants as errors;
 
 use crate::error::OpenFileError;
@@ -30,7 +30,7 @@ const MOST_BYTES: u64 = 1 << 40;
 ///
 /// # Errors
 /// `BadCapacity` if the capacity is out of range; no file is touched. `File` if the file is in use, has more bytes than the capacity, or
-/// cannot be opened, locked, read or synced, or memory is out; it is unchanged. `NotServed` if the tree text is refused, the file is no
+/// cannot be opened, locked, read or synced, or memory is out; it is unchanged. `Store` if the tree text is refused, the file is no
 /// store under these tables, a call on it fails, or memory is out; see `StoreServer::open`. `OutOfMemory` if there is no memory for the
 /// sessions. After each error the file is unlocked, and may be opened again.
 pub fn open_file<R: Files<File = File>>(
@@ -45,7 +45,7 @@ pub fn open_file<R: Files<File = File>>(
     ensures numbers { IfOk result (λ r. map number_of r.1.items ≡ numbers SESSIONS) }
     ensures out_of_range { (capacity ≡ 0) ⊎ (2 ^ 40 ≤ capacity) → IsErrOf result errors.BadCapacity }
     ensures range { 0 < capacity → capacity < 2 ^ 40 → IsErrOf result errors.BadCapacity → ⊥ }
-    ensures not_served { (why : TheServeError) → IsErrOf result (errors.NotServed why) → ∥ IsFileRefused capacity tree.items why ∥₁ }
+    ensures not_opened { (why : TheOpenError) → IsErrOf result (errors.Store why) → ∥ IsFileRefused capacity tree.items why ∥₁ }
 {
     if capacity == 0 || MOST_BYTES <= capacity {
         return Err(OpenFileError::BadCapacity);
@@ -56,7 +56,7 @@ pub fn open_file<R: Files<File = File>>(
     };
     let (server, log) = match StoreServer::open(alloc, disk, tree) {
         Ok(halves) => halves,
-        Err(refused) => return Err(OpenFileError::NotServed(refused.why)),
+        Err(refused) => return Err(OpenFileError::Store(refused.why)),
     };
     match Store::new(alloc, server, log) {
         Ok(shared) => Ok(shared),

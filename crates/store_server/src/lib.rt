@@ -37,7 +37,7 @@ mod obstacles;
 mod opening;
 mod server;
 
-pub use error::{NotServed, OpenFileError, ServeError};
+pub use error::{NotOpened, OpenFileError, OpenStoreError};
 pub use file_store::{FileServer, open_file};
 pub use laws::shared_lives_are_serial;
 pub use server::StoreServer;

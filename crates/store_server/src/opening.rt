@@ -4,9 +4,9 @@ ghost use Rattle.std.specs.Prelude.{◌≡◌, [], false, IfErr, IfOk};
 ghost use Rattle.engine_store.specs.Halves.{AreCommitsSince, KeepsCommits};
 ghost use Rattle.engine_store.specs.Label.{label_of};
 ghost use Rattle.store_server.specs.Found.{IsFound};
-ghost use Rattle.store_server.specs.Refused.{IsNotServed};
+ghost use Rattle.store_server.specs.Refused.{IsNotOpened};
 
-use crate::error::{NotServed, ServeError};
+use crate::error::{NotOpened, OpenStoreError};
 use crate::server::StoreServer;
 use chain_pool::PooledChains;
 use crash_disk::Renew;
@@ -21,12 +21,12 @@ impl<D: Renew> StoreServer<D> {
     ///
     /// # Errors
     /// Each error returns the disk, which may be opened again. `BadTree` if the text is refused; then the disk is as it was.
-    /// `NotOpened` for the causes of `EngineStore::open`; nothing was written, unless a call of the disk failed.
+    /// `Disk` for the causes of `EngineStore::open`; nothing was written, unless a call of the disk failed.
     pub fn open(
         alloc: Global,
         disk: D,
         tree: Vec<u8>,
-    ) -> Result<(StoreServer<D>, EpochJournal<D>), NotServed<D>>
+    ) -> Result<(StoreServer<D>, EpochJournal<D>), NotOpened<D>>
         // The rows are those that the disk has, and nothing has happened.
         ensures found { IfOk result (λ o. IsFound D.seen D.may_leave (D.capacity disk) tree.items disk o.0.queue.engine) }
         ensures events { IfOk result (λ o. o.0.queue.engine.events ≡ []) }
@@ -36,14 +36,14 @@ impl<D: Renew> StoreServer<D> {
         ensures running { IfOk result (λ o. o.1.stopped ≡ false) }
         ensures label { IfOk result (λ o. o.1.layout.label ≡ label_of o.0.queue.engine.names.tables) }
         // The error is the one that the tree text or the disk has.
-        ensures refused { IfErr result (λ e. IsNotServed D.seen D.may_leave D.moment D.left_since D.faults D.capacity tree.items disk e.disk e.why) }
+        ensures refused { IfErr result (λ e. IsNotOpened D.seen D.may_leave D.moment D.left_since D.faults D.capacity tree.items disk e.disk e.why) }
     {
         let setup = match read_tree(alloc, &tree) {
             Ok(setup) => setup,
             Err(fault) => {
-                return Err(NotServed {
+                return Err(NotOpened {
                     disk,
-                    why: ServeError::BadTree(fault),
+                    why: OpenStoreError::BadTree(fault),
                 });
             }
         };
@@ -52,9 +52,9 @@ impl<D: Renew> StoreServer<D> {
                 let (queue, log) = store.split(alloc);
                 Ok((StoreServer::new(queue, tree), log))
             }
-            Err(refused) => Err(NotServed {
+            Err(refused) => Err(NotOpened {
                 disk: refused.disk,
-                why: ServeError::NotOpened(refused.why),
+                why: OpenStoreError::Disk(refused.why),
             }),
         }
     }

@@ -1,6 +1,6 @@
 use Rattle.std.proofs.Common.{refl}
 use Rattle.shared_store.proofs.Turning.{mark_grows, takes_none}
-use Rattle.shared_store.specs.declared.entry.LifeEntry.TheVariants.{Stopped}
+use Rattle.shared_store.specs.declared.entry.LifeEntry.TheVariants.{LogFailed}
 use Rattle.shared_store.proofs.taking.stop_front.Goals as goal
 
 pub returns-clause-none : goal.returns-clause-none
@@ -11,6 +11,6 @@ returns-clause-none g c =
       owner = c.requires.log.owner;
       follows = c.enter-hosted.ensures.follows;
       enters = c.enter-hosted.ensures.enters;
-      grows = mark_grows Stopped x.entries.items y.entries.items refl c.stop.ensures.entries;
+      grows = mark_grows LogFailed x.entries.items y.entries.items refl c.stop.ensures.entries;
       first = c.stop.ensures.first;
     } c.leave.ensures.view c.stop.ensures.entries

@@ -1,6 +1,6 @@
 use Rattle.std.proofs.Common.{refl}
 use Rattle.shared_store.proofs.Turning.{mark_grows, takes_batch}
-use Rattle.shared_store.specs.declared.entry.LifeEntry.TheVariants.{Taken}
+use Rattle.shared_store.specs.declared.entry.LifeEntry.TheVariants.{CommitsTaken}
 use Rattle.shared_store.proofs.taking.take_batch.Goals as goal
 
 pub returns-clause-batch : goal.returns-clause-batch
@@ -11,6 +11,6 @@ returns-clause-batch g c =
       owner = c.requires.log.owner;
       follows = c.enter-hosted.ensures.follows;
       enters = c.enter-hosted.ensures.enters;
-      grows = mark_grows Taken x.entries.items y.entries.items refl c.take-batch.ensures.entries;
+      grows = mark_grows CommitsTaken x.entries.items y.entries.items refl c.take-batch.ensures.entries;
       first = c.take-batch.ensures.first;
     } c.leave.ensures.view (g.S.EpochServer.brings c.take-batch.result) y.commits c.take-batch.ensures.brought

@@ -31,10 +31,11 @@ invariant_of-running g c =
 
 pub returns-clause-more : goal.returns-clause-more
 returns-clause-more g c =
-    no_calls_on c.args.self.entries.items c.end_all-ended.new.self.entries.items c.write_and_end.result.0.entries.items c.end_all-ended.ensures.more c.write_and_end.ensures.more
+    let mid = c.end_all-ended.new.self.entries.items in
+    no_calls_on c.args.self.entries.items mid c.write_and_end.result.hosted.entries.items c.end_all-ended.ensures.more c.write_and_end.ensures.more
 
 pub returns-clause-kept : goal.returns-clause-kept
 returns-clause-kept g c =
     let r = c.write_and_end.result in
-    subst (λ f. IsKeptAfter (g.S.EpochServer.keeps r.1) (first_stage (g.S.EpochServer.standing f.value)) (g.S.EpochServer.failed r.1) c.args.total r.0.entries.items) c.end_all-ended.ensures.first
+    subst (λ f. IsKeptAfter (g.S.EpochServer.keeps r.log) (first_stage (g.S.EpochServer.standing f.value)) (g.S.EpochServer.failed r.log) c.args.total r.hosted.entries.items) c.end_all-ended.ensures.first
     c.write_and_end.ensures.kept

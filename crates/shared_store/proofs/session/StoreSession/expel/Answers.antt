@@ -2,7 +2,7 @@ use Rattle.std.proofs.Common.{rules, ◌+◌, ◌*◌, ◌≤◌, refl, arith}
 use Rattle.turn_lock.specs.Seats.{view_of}
 use Rattle.shared_store.specs.declared.session.TheConstants.{MOST_ASKS, MOST_TURNS}
 use Rattle.shared_store.specs.Sharing.{base_of}
-use Rattle.shared_store.proofs.Adding.{marks_grow}
+use Rattle.shared_store.proofs.Adding.{for_others_grow}
 use Rattle.shared_store.proofs.Answered.{knows_on, unasked}
 use Rattle.shared_store.proofs.Turning.{Took, adds, sees_none, takes}
 use Rattle.shared_store.proofs.session.StoreSession.expel.Goals as goal
@@ -15,7 +15,7 @@ leave-requires-clause-adds g c =
       owner = c.args.self.now.knows.owner;
       follows = c.enter-hosted.ensures.follows;
       enters = c.enter-hosted.ensures.enters;
-      grows = marks_grow c.args.self.now.session.0 x.entries.items y.entries.items c.end_for-ended.ensures.marks;
+      grows = for_others_grow c.args.self.now.session.0 x.entries.items y.entries.items c.end_for-ended.ensures.others;
       first = c.end_for-ended.ensures.first;
     }
 
@@ -30,11 +30,11 @@ returns-in-Ok-clause-ended g c =
       owner = old.knows.owner;
       follows = c.enter-hosted.ensures.follows;
       enters = c.enter-hosted.ensures.enters;
-      grows = marks_grow old.session.0 x.entries.items y.entries.items c.end_for-ended.ensures.marks;
+      grows = for_others_grow old.session.0 x.entries.items y.entries.items c.end_for-ended.ensures.others;
       first = c.end_for-ended.ensures.first;
     } in
     unasked (base_of c.args.store.now) old _ refl refl c.requires.session.1 1 (takes old.session.0 old.seat.seat.me.0 v x y w t c.leave.ensures.view)
-    (sees_none old.session old.seat.seat.me.0 v x y w t c.leave.ensures.view c.end_for-ended.ensures.marks)
+    (sees_none old.session old.seat.seat.me.0 v x y w t c.leave.ensures.view c.end_for-ended.ensures.others)
 
 pub returns-in-Err-clause-unasked : goal.returns-in-Err-clause-unasked
 returns-in-Err-clause-unasked g c =
@@ -47,11 +47,11 @@ returns-in-Err-clause-unasked g c =
       owner = old.knows.owner;
       follows = c.enter-hosted.ensures.follows;
       enters = c.enter-hosted.ensures.enters;
-      grows = marks_grow old.session.0 x.entries.items y.entries.items c.end_for-ended.ensures.marks;
+      grows = for_others_grow old.session.0 x.entries.items y.entries.items c.end_for-ended.ensures.others;
       first = c.end_for-ended.ensures.first;
     } in
     λ f _. unasked (base_of c.args.store.now) old _ refl refl c.requires.session.1 1 (takes old.session.0 old.seat.seat.me.0 v x y w t c.leave.ensures.view)
-    (sees_none old.session old.seat.seat.me.0 v x y w t c.leave.ensures.view c.end_for-ended.ensures.marks)
+    (sees_none old.session old.seat.seat.me.0 v x y w t c.leave.ensures.view c.end_for-ended.ensures.others)
 
 pub invariant_of-self : goal.invariant_of-self
 invariant_of-self g c =
@@ -65,7 +65,7 @@ invariant_of-self g c =
       owner = old.knows.owner;
       follows = c.enter-hosted.ensures.follows;
       enters = c.enter-hosted.ensures.enters;
-      grows = marks_grow s.0 x.entries.items y.entries.items c.end_for-ended.ensures.marks;
+      grows = for_others_grow s.0 x.entries.items y.entries.items c.end_for-ended.ensures.others;
       first = c.end_for-ended.ensures.first;
     } in
     let took = takes s.0 v c.enter-hosted.new.seat.seat.me.0 x y w t c.leave.ensures.view in
