@@ -9,6 +9,7 @@ pub mod Placing
 pub mod Freeing
 pub mod Taken
 pub mod Chains
+pub mod OfCells
 pub mod Growing
 pub mod Rewriting
 pub mod Emptied

@@ -1,17 +1,25 @@
 -- No list has more elements than there are places, and a walk along a chain stays within the places.
-use Rattle.std.proofs.Common.{◌≡◌, ◌∙◌, ℕ, ◌<◌, List, length, refl, sym, ap, subst, arith, IsSome, Option, Some, None}
+use Rattle.std.proofs.Common.{◌≡◌, ◌∙◌, ℕ, zero, suc, ◌<◌, List, [], ◌∷◌, length, refl, sym, ap, subst, arith, IsSome, Option, Some, None}
 use Rattle.std.specs.Option.{option_map}
+use Rattle.std.proofs.lemmas.Bool.{false≢true}
 use Rattle.teb_rules.specs.declared.names.Cell.{Cell}
 use Rattle.teb_rules.specs.declared.names.Txn.{Txn}
 use Rattle.chain_pool.specs.declared.places.Version.{Version as Stored}
 use Rattle.chain_pool.specs.declared.places.Place.{Place}
 use Rattle.chain_pool.specs.declared.places.Head.{Head}
+use Rattle.chain_pool.specs.declared.places.Chain.{Chain}
 use Rattle.chain_pool.specs.Threads.{steps}
 use Rattle.chain_pool.specs.Places.{slot_at, next_at, previous_at, sibling_at, InChain, IsOwned, IsFree}
-use Rattle.chain_pool.specs.Linked.{Linked, HasLasts}
+use Rattle.chain_pool.specs.Linked.{Linked, HasLasts, IsWalkable}
 use Rattle.chain_pool.proofs.Threads.{len-lt, thread-steps}
 use Rattle.chain_pool.proofs.Rings.{steps-mine, mine_next, mine_previous}
 use Rattle.chain_pool.proofs.Slots.{free_chain, free_owned}
+
+-- a place that holds a version exists
+pub used_within : (ps : List Place) (p : ℕ) → IsSome (slot_at ps p).version → p < length ps
+used_within [] p some = absurd (false≢true some)
+used_within (x ∷ ps) zero some = omega arith
+used_within (x ∷ ps) (suc p) some = let lt = used_within ps p some in omega (arith, lt)
 
 -- a place that is in a chain holds a version
 pub is_used : (ps : List Place) (x : Cell) (p : ℕ) → InChain ps x p → IsSome (slot_at ps p).version
@@ -62,22 +70,12 @@ module _ (ps : List Place) (chain : Cell → Head) (own : Txn → Head) (unused 
   pub chain_some : (x : Cell) (p : ℕ) → InChain ps x p → 0 < (chain x).len
   chain_some x p m = let at = (S.chains x).thread.complete p m in omega (arith, at.1.0)
 
-  -- the same for a chain whose places and head were read
-  module _ (qs : List Place) (same : qs ≡ ps) (x : Cell) (h : Head) (is : h ≡ chain x) where
-    pub read_within : (n : ℕ) → 0 < h.len → steps (previous_at qs) n h.first < length qs
-    read_within n some =
-        subst (λ (rs : List Place). steps (previous_at rs) n h.first < length rs) (sym same)
-        (subst (λ (g : Head). steps (previous_at ps) n g.first < length ps) (sym is) (walk_within x n (subst (λ (g : Head). 0 < g.len) is some)))
-
-    pub read_used : (n : ℕ) → 0 < h.len → IsSome (slot_at qs (steps (previous_at qs) n h.first)).version
-    read_used n some =
-        subst (λ (rs : List Place). IsSome (slot_at rs (steps (previous_at rs) n h.first)).version) (sym same)
-        (subst (λ (g : Head). IsSome (slot_at ps (steps (previous_at ps) n g.first)).version) (sym is) (walk_used x n (subst (λ (g : Head). 0 < g.len) is some)))
-
-    pub read_last : (last : Cell → ℕ) → HasLasts ps chain last → (l : ℕ) → l ≡ last x → 0 < h.len → l ≡ previous_at qs h.first
-    read_last last ends l l_is some =
-        l_is ∙ (ends x (subst (λ (g : Head). 0 < g.len) is some)
-        ∙ (ap (λ (g : Head). previous_at ps g.first) (sym is) ∙ ap (λ (rs : List Place). previous_at rs h.first) (sym same)))
+  -- a chain whose places were read can be walked
+  pub walkable : (last : Cell → ℕ) → HasLasts ps chain last → (qs : List Place) → qs ≡ ps → (x : Cell) (c : Chain) → c.head ≡ chain x → c.last ≡ last x → IsWalkable qs c
+  walkable last ends qs same x c head_is last_is = subst (λ (rs : List Place). IsWalkable rs c) (sym same) (record {
+    last = λ some. last_is ∙ (ends x (subst (λ (g : Head). 0 < g.len) head_is some) ∙ ap (λ (g : Head). previous_at ps g.first) (sym head_is));
+    used = λ n some. subst (λ (g : Head). IsSome (slot_at ps (steps (previous_at ps) n g.first)).version) (sym head_is) (walk_used x n (subst (λ (g : Head). 0 < g.len) head_is some));
+  })
 
   -- the places of a writer's list
   pub owned_steps : (qs : List Place) → qs ≡ ps → (t : Txn) (h : Head) → h ≡ own t → (n : ℕ) → n < h.len → steps (sibling_at qs) n h.first < length qs

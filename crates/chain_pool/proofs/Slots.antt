@@ -12,7 +12,7 @@ use Rattle.chain_pool.specs.declared.places.Head.{Head}
 use Rattle.chain_pool.specs.Threads.{Ring}
 use Rattle.chain_pool.specs.Places.{Slot, slot_at, next_at, previous_at, cell_in, writer_in, pair_in, pair_at, InChain, IsOwned, IsFree}
 use Rattle.chain_pool.specs.Linked.{versions}
-use Rattle.chain_pool.proofs.Threads.{thread-walk}
+use Rattle.chain_pool.specs.Props.{thread-walk}
 use Rattle.chain_pool.proofs.Rings.{last_place}
 
 -- a choice by comparing two numbers

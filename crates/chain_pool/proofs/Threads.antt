@@ -5,7 +5,7 @@ use Rattle.std.proofs.lemmas.Bool.{cases_lt, cases_eq, false≢true}
 use Rattle.std.proofs.lemmas.Bool.Decides.{nat_tests}
 use Rattle.std.proofs.lemmas.List.Edits.{length-insert, get_or-insert_below, get_or-insert_at, get_or-insert_above, length-remove, get_or-remove_below, get_or-remove_above}
 use Rattle.std.proofs.lemmas.Map.Steps.{length-le_from_distinct_below}
-use Rattle.chain_pool.specs.Threads.{Thread, walk, steps}
+use Rattle.chain_pool.specs.Threads.{Thread, steps}
 
 -- the element at an index after an insertion: below, at or above the inserted one
 module _ (L : List ℕ) (i q : ℕ) (within : i ≤ length L) where
@@ -182,19 +182,6 @@ module _ (mine mine' : ℕ → Type 0) (next next' : ℕ → ℕ) (first len : �
     distinct = distinct_less;
     complete = complete_less;
   }
-
-pub walk_is : (next : ℕ → ℕ) (L : List ℕ) (n p : ℕ) → length L ≡ n → (0 < n → p ≡ get_or L 0 0) → ((j : ℕ) → j + 1 < n → next (get_or L j 0) ≡ get_or L (j + 1) 0) → walk next n p ≡ L
-walk_is next [] zero p len head link = refl
-walk_is next (x ∷ L) zero p len head link = absurd (omega (arith, len))
-walk_is next [] (suc n) p len head link = absurd (omega (arith, len))
-walk_is next (x ∷ L) (suc n) p len head link =
-    let e : p ≡ x = head (omega arith) in
-    let rest : walk next n (next p) ≡ L = walk_is next L n (next p) (omega (arith, len)) (λ lt. ap next e ∙ link 0 (omega arith)) (λ j lt. let e : suc j + 1 ≡ suc (j + 1) = omega arith in
-    link (suc j) (omega arith) ∙ ap (λ k. get_or (x ∷ L) k 0) e) in
-    ap (λ h. h ∷ walk next n (next p)) e ∙ ap (λ t. x ∷ t) rest
-
-pub thread-walk : (mine : ℕ → Type 0) (next : ℕ → ℕ) (first len : ℕ) (t : Thread mine next first len) → walk next len first ≡ t.places
-thread-walk mine next first len t = walk_is next t.places len first t.count t.head t.link
 
 -- a list has no more elements than there are places
 distinct_tail : (x : ℕ) (L : List ℕ) → ((i j : ℕ) → i < length (x ∷ L) → j < length (x ∷ L) → get_or (x ∷ L) i 0 ≡ get_or (x ∷ L) j 0 → i ≡ j) → (i j : ℕ) → i < length L → j < length L

@@ -3,5 +3,7 @@ pub mod Places
 pub mod Heads
 pub mod Linked
 pub mod Pools
+pub mod Props
+pub mod CellChains
 pub mod Latest
 pub mod View

@@ -3,7 +3,7 @@
 ghost use Rattle.std.specs.Prelude.{◌≡◌, ◌==◌, ◌<◌, ◌≤◌, ◌+◌, ◌^◌, [], vec_len, vec_capacity, OnOk, if◌then◌else◌};
 ghost use Rattle.teb_rules.specs.declared.names.Cell.{Cell};
 ghost use Rattle.teb_rules.specs.names.Cells.{same_cell};
-ghost use Rattle.chain_pool.specs.Heads.{with_next, chain_head, last_of, without_place, last_without};
+ghost use Rattle.chain_pool.specs.Heads.{with_next, chain_at as spec_chain_at, chain_head, last_of, without_place, last_without};
 
 use crate::places::{Chain, Head, NO_CHAIN};
 use cell_index::CellIndex;
@@ -78,8 +78,7 @@ impl ChainHeads {
     /// Returns the chain of a cell.
     #[inline(always)]
     pub(crate) fn chain_at(&self, cell: Cell) -> Chain
-        ensures head { result.head ≡ chain_head self.now.entries cell }
-        ensures last { result.last ≡ last_of self.now.entries cell }
+        ensures { result ≡ spec_chain_at self.now.entries cell }
     {
         let at = self.cells.place(cell);
         if at < self.chains.len() {

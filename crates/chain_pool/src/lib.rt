@@ -26,6 +26,7 @@
 //! - 1 places.
 #![tactic(auto)]
 
+mod cell_chain;
 mod chain_heads;
 mod latest;
 mod places;

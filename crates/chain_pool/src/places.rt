@@ -160,8 +160,7 @@ pub(crate) fn unlink(places: &mut [Place], place: u32, sibling: u32, before: u32
 
 /// Replaces the value of the version at a place that is not free.
 pub(crate) fn rewrite(places: &mut [Place], place: u32, value: Option<i64>)
-    requires within { place < length places.old }
-    requires used { IsSome (slot_at places.old place).version }
+    requires { IsSome (slot_at places.old place).version }
     ensures next { (r : ℕ) → next_at places.new r ≡ next_at places.old r }
     ensures previous { (r : ℕ) → previous_at places.new r ≡ previous_at places.old r }
     ensures slot { (r : ℕ) → slot_at places.new r ≡ (if r == place then with_value (slot_at places.old place) value else slot_at places.old r) }

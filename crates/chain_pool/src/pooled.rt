@@ -1,9 +1,11 @@
 //! Chains in a pool of places.
 
 ghost use Rattle.std.specs.Prelude.{◌≡◌, []};
+ghost use Rattle.std.specs.Option.{option_map};
 ghost use Rattle.teb_rules.specs.declared.names.Cell.{Cell};
 ghost use Rattle.chain_pool.specs.View.{list_in};
 
+use crate::cell_chain::CellChain;
 use crate::latest::{self, MARKS};
 use crate::places::Version;
 use crate::pool::Pool;
@@ -44,6 +46,17 @@ impl Model for PooledChains {
     ghost invariant = { λ c. Holds c.pool c.spare c.latest };
 }
 
+/// Returns the place of a version that was found.
+#[inline(always)]
+fn place_of(found: Option<Found>) -> Option<usize>
+    ensures { result ≡ option_map (λ v. v.at) found }
+{
+    match found {
+        Some(version) => Some(version.at),
+        None => None,
+    }
+}
+
 impl PooledChains {
     /// Returns no versions, with no room.
     pub fn new(alloc: Global) -> Self
@@ -72,15 +85,15 @@ impl Chains for PooledChains {
     }
 
     fn len_of(&self, cell: Cell) -> usize {
-        self.pool.len_of(cell)
+        CellChain::of(&self.pool, cell).len()
     }
 
     fn at(&self, cell: Cell, i: usize) -> (Txn, Option<i64>) {
-        self.pool.at(cell, i)
+        CellChain::of(&self.pool, cell).at(i)
     }
 
     fn find(&self, cell: Cell, t: Txn) -> Option<usize> {
-        self.pool.find(cell, t)
+        place_of(CellChain::of(&self.pool, cell).find(t))
     }
 
     fn place(&mut self, cell: Cell, i: usize, t: Txn, value: Option<i64>) {
@@ -103,11 +116,11 @@ impl Chains for PooledChains {
     }
 
     fn last_where_from<F: Fn(Txn) -> bool>(&self, cell: Cell, from: usize, f: &F) -> Option<usize> {
-        self.pool.last_where_from(cell, from, f)
+        place_of(CellChain::of(&self.pool, cell).last_accepted(from, f))
     }
 
     fn own_or_last<F: Fn(Txn) -> bool>(&self, cell: Cell, t: Txn, f: &F) -> Option<Found> {
         let is_new = latest::is_above(&self.latest, t, cell);
-        self.pool.own_or_last(cell, t, is_new, f)
+        CellChain::of(&self.pool, cell).own_or_last(t, is_new, f)
     }
 }

@@ -5,7 +5,7 @@ ghost use Rattle.std.specs.Bool.{OnFalse};
 ghost use Rattle.std.specs.Option.{option_map};
 ghost use Rattle.chain_pool.specs.Threads.{steps};
 ghost use Rattle.chain_pool.specs.Places.{slot_at, previous_at, sibling_at, cell_in, pair_at as spec_pair_at};
-ghost use Rattle.chain_pool.specs.Linked.{nth_place};
+ghost use Rattle.chain_pool.specs.Linked.{IsWalkable, nth_place};
 
 use crate::places::{self, Chain, Head, Place};
 use teb_rules::names::{Cell, Txn};
@@ -25,11 +25,9 @@ fn step_back(places: &[Place], start: u32, count: u32) -> u32
 
 /// Returns the place of the i-th version of a chain. The walk starts at the chain's end.
 pub(crate) fn place_of(places: &[Place], chain: Chain, i: usize) -> u32
-    requires safe { (n : ℕ) → 0 < chain.head.len → steps (previous_at places.now) n chain.head.first < length places.now }
-    requires last { 0 < chain.head.len → chain.last ≡ previous_at places.now chain.head.first }
+    requires walk { IsWalkable places.now chain }
     requires within { i < chain.head.len }
-    ensures place { result ≡ nth_place places.now chain.head i }
-    ensures within { result < length places.now }
+    ensures { result ≡ nth_place places.now chain.head i }
 {
     step_back(places, chain.last, chain.head.len - 1 - i as u32)
 }
@@ -55,8 +53,7 @@ pub(crate) fn neighbours(places: &[Place], chain: Head, i: usize, place: u32) ->
 
 /// Returns the writer and the value at a place that is not free.
 pub(crate) fn pair_at(places: &[Place], place: u32) -> (Txn, Option<i64>)
-    requires within { place < length places.now }
-    requires used { IsSome (slot_at places.now place).version }
+    requires { IsSome (slot_at places.now place).version }
     ensures { result ≡ spec_pair_at places.now place }
 {
     match places::at(places, place).version() {
@@ -79,9 +76,7 @@ pub(crate) fn last_accepted<F: Fn(Txn) -> bool>(
     from: usize,
     f: &F,
 ) -> Option<Found>
-    requires safe { (n : ℕ) → 0 < chain.head.len → steps (previous_at places.now) n chain.head.first < length places.now }
-    requires last { 0 < chain.head.len → chain.last ≡ previous_at places.now chain.head.first }
-    requires used { (n : ℕ) → 0 < chain.head.len → IsSome (slot_at places.now (steps (previous_at places.now) n chain.head.first)).version }
+    requires walk { IsWalkable places.now chain }
     requires callable { (j : ℕ) → j < chain.head.len → F.pre f.now (spec_pair_at places.now (nth_place places.now chain.head j)).0 }
     ensures within { IfSome result (λ v. v.at < chain.head.len) }
     ensures version { IfSome result (λ v. spec_pair_at places.now (nth_place places.now chain.head v.at) ≡ (v.writer, v.value)) }

@@ -2,17 +2,19 @@ use Rattle.std.proofs.Common.{◌≡◌, ◌<◌, ◌-◌, ◌+◌, suc, ap, sym
 use Rattle.teb_rules.specs.declared.names.Txn.{Txn}
 use Rattle.chain_pool.specs.Threads.{steps}
 use Rattle.chain_pool.specs.Places.{previous_at, slot_at, pair_at}
+use Rattle.chain_pool.proofs.Sizes.{used_within}
 use Rattle.chain_pool.proofs.walks.last_accepted.Goals as goal
 
-pub pair_at-value-requires-clause-within : goal.pair_at-value-requires-clause-within
-pair_at-value-requires-clause-within g c =
-    subst (λ p. p < length c.args.places.now) (sym (c.loop-above.invariant.place (omega (arith, c.loop-above-test.true, c.saturating_sub-above-end.ensures))))
-    (c.requires.safe (suc c.loop-above.above) (omega (arith, c.loop-above-test.true, c.saturating_sub-above-end.ensures)))
-
-pub pair_at-value-requires-clause-used : goal.pair_at-value-requires-clause-used
-pair_at-value-requires-clause-used g c =
+pub pair_at-value-requires : goal.pair_at-value-requires
+pair_at-value-requires g c =
     subst (λ p. IsSome (slot_at c.args.places.now p).version) (sym (c.loop-above.invariant.place (omega (arith, c.loop-above-test.true, c.saturating_sub-above-end.ensures))))
-    (c.requires.used (suc c.loop-above.above) (omega (arith, c.loop-above-test.true, c.saturating_sub-above-end.ensures)))
+    (c.requires.walk.used (suc c.loop-above.above) (omega (arith, c.loop-above-test.true, c.saturating_sub-above-end.ensures)))
+
+pub at-requires : goal.at-requires
+at-requires g c =
+    let lt : c.loop-above.above < c.args.chain.head.len = omega (arith, c.loop-above-test.true, c.saturating_sub-above-end.ensures) in
+    used_within c.args.places.now _ (subst (λ p. IsSome (slot_at c.args.places.now p).version)
+    (sym (c.loop-above.invariant.place (omega (arith, lt)))) (c.requires.walk.used (suc c.loop-above.above) (omega (arith, lt))))
 
 pub accepts-requires : goal.accepts-requires
 accepts-requires g c =

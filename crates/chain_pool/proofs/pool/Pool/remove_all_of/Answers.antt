@@ -21,12 +21,12 @@ returns-in-Some-clause-sound c =
     let was = c.args.self.now.writers.entries in
     let now = c.swap_remove.new.self.entries in
     let p = c.take_all.new.self in
-    let l = c.take_all.ensures.linked in
+    let l = c.take_all.ensures.sound in
     let gone = c.swap_remove.ensures.updates.0 in
     let none = ap (λ (m : IndexMap Txn Head _). writer_head m.entries c.args.t) c.take_all.ensures.writers ∙ no_entry was now c.args.t gone in
     record {
-      linked = emptied p.places.items (chain_head p.cells.entries) p.unused c.args.t (writer_head p.writers.entries) l.0 l.2 l.1 none;
-      lasts = c.take_all.ensures.lasts;
+      linked = emptied p.places.items (chain_head p.cells.entries) p.unused c.args.t (writer_head p.writers.entries) l.0 l.2.linked l.1 none;
+      lasts = l.2.lasts;
       busy = subst (λ (m : IndexMap Txn Head _). IsBusy m.entries) (sym c.take_all.ensures.writers) (busy_without was now c.args.t gone c.requires.sound.busy);
     }
 

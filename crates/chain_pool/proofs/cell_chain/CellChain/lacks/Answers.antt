@@ -7,7 +7,7 @@ use Rattle.chain_pool.specs.Threads.{steps}
 use Rattle.chain_pool.specs.Places.{slot_at, sibling_at, cell_in}
 use Rattle.chain_pool.proofs.Chains.{find_none}
 use Rattle.chain_pool.proofs.Sizes.{owned_steps}
-use Rattle.chain_pool.proofs.pool.Pool.lacks.Goals as goal
+use Rattle.chain_pool.proofs.cell_chain.CellChain.lacks.Goals as goal
 
 -- a list has no version of the cell
 abbrev HasNone : Cell → List Place → Head → Type 0
@@ -19,12 +19,13 @@ on_not false X Y h f = f h
 
 pub has_cell-requires : goal.has_cell-requires
 has_cell-requires c =
-    owned_steps c.args.self.now.places.items _ _ c.args.self.now.unused c.requires.linked c.deref.result.now c.deref.ensures.value c.args.t c.head_of-own.result c.head_of-own.ensures
+    let p = c.args.self.pool.now in
+    owned_steps p.places.items _ _ p.unused c.args.self.sound.linked c.deref.result.now c.deref.ensures.value c.args.t c.head_of-own.result c.head_of-own.ensures
 
 pub returns-then-own-chain : goal.returns-then-own-chain
 returns-then-own-chain c =
-    let x = c.args.cell in
-    let ps = c.args.self.now.places.items in
+    let x = c.args.self.cell in
+    let p = c.args.self.pool.now in
     on_not c.has_cell.result (HasNone x c.deref.result.now c.head_of-own.result) _ c.has_cell.ensures (λ none.
-    sym (find_none ps _ _ c.args.self.now.unused c.requires.linked x c.args.t
-    (subst (λ (h : Head). HasNone x ps h) c.head_of-own.ensures (subst (λ (qs : List Place). HasNone x qs c.head_of-own.result) c.deref.ensures.value none))))
+    sym (find_none p.places.items _ _ p.unused c.args.self.sound.linked x c.args.t
+    (subst (λ (h : Head). HasNone x p.places.items h) c.head_of-own.ensures (subst (λ (qs : List Place). HasNone x qs c.head_of-own.result) c.deref.ensures.value none))))

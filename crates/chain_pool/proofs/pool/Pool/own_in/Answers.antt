@@ -1,6 +1,0 @@
-use Rattle.chain_pool.specs.Pools.{chain_of}
-use Rattle.chain_pool.proofs.Writers.{first_place-absent}
-use Rattle.chain_pool.proofs.pool.Pool.own_in.Goals as goal
-
-pub returns-then-is_new-clause-place : goal.returns-then-is_new-clause-place
-returns-then-is_new-clause-place c = first_place-absent (chain_of c.args.self.now c.args.cell) c.args.t.0 (rw c.if-is_new.true at c.requires.absent)
