@@ -18,8 +18,11 @@ const FIRST_LOOKS: u32 = 20;
 /// How often a session looks at the door after a rest: longer than most transactions.
 const LOOKS: u32 = 200;
 
-/// After how many rests a session waits in the queue of the lock.
-const RESTS: u32 = 3;
+/// After how many rests a session waits in the queue of the lock, for each session that rests.
+const RESTS: u64 = 3;
+
+/// How often a session rests at most.
+const MOST_RESTS: u64 = RESTS * 32;
 
 /// How long a rest is, in microseconds.
 const REST: u64 = 300;
@@ -31,7 +34,8 @@ const REST: u64 = 300;
 /// one, and seldom meet a row that a resting session holds. If a session is answered Again nevertheless, the hall is *crowded*: no
 /// transaction is to begin until those that are open have ended. Else each would meet rows of the others, and be aborted.
 /// A session that has rested often waits in the queue of the lock, and is woken when another goes out; so nobody waits for a session
-/// that stays away.
+/// that stays away. While others go in and out, it rests the more often the more sessions rest: each that comes out of the queue goes
+/// in amid a transaction of another, and so these stay few.
 ///
 /// It decides who sleeps, and no theorem depends on it: the turn alone keeps the server to one session at a time.
 #[derive(Drop)]
@@ -43,6 +47,19 @@ pub(crate) struct Door {
     crowded: AtomicBool,
     /// How many sessions look at the door after a rest.
     looking: AtomicU64,
+    /// How many sessions rest, or look after a rest.
+    resting: AtomicU64,
+}
+
+/// What a session finds that looks at the door for a while.
+#[derive(Drop)]
+enum Found<'a> {
+    /// It is in.
+    Entry(MutexGuard<'a, ()>),
+    /// Another session was inside.
+    Busy,
+    /// Nobody was inside at any look.
+    Idle,
 }
 
 /// A session that comes to the door.
@@ -71,6 +88,7 @@ impl Door {
             place: SharedPlace::new(),
             crowded: AtomicBool::new(false),
             looking: AtomicU64::new(0),
+            resting: AtomicU64::new(0),
         }
     }
 
@@ -105,15 +123,11 @@ impl Door {
 
     /// Rests and looks, and goes in. After its last rest it waits for nobody's transaction.
     fn wait<R: Wait>(&self, rt: &R, caller: Caller) -> MutexGuard<'_, ()> {
-        for _ in 0..RESTS {
-            let word = AtomicU64::new(0);
-            word.park_timeout(rt, 0, Duration::from_micros(REST));
-            self.looking.fetch_add(1, SeqCst);
-            let inside = self.look(caller);
-            self.looking.fetch_sub(1, SeqCst);
-            if let Some(inside) = inside {
-                return inside;
-            }
+        self.resting.fetch_add(1, SeqCst);
+        let inside = self.rest(rt, caller);
+        self.resting.fetch_sub(1, SeqCst);
+        if let Some(inside) = inside {
+            return inside;
         }
         let inside = self.lock.lock(rt);
         // The sessions that hold transactions stay away.
@@ -121,24 +135,57 @@ impl Door {
         inside
     }
 
+    /// Rests and looks until it goes in, or has rested `RESTS` times for each session that rests. A rest after which nobody goes in and
+    /// out counts as many.
+    fn rest<R: Wait>(&self, rt: &R, caller: Caller) -> Option<MutexGuard<'_, ()>> {
+        let mut rests: u64 = 0;
+        for _ in 0..MOST_RESTS {
+            let word = AtomicU64::new(0);
+            word.park_timeout(rt, 0, Duration::from_micros(REST));
+            self.looking.fetch_add(1, SeqCst);
+            let found = self.look(caller);
+            self.looking.fetch_sub(1, SeqCst);
+            let resting = self.resting.load(SeqCst);
+            rests = match found {
+                Found::Entry(inside) => return Some(inside),
+                Found::Busy => rests.saturating_add(1),
+                Found::Idle => rests.saturating_add(resting),
+            };
+            if resting.saturating_mul(RESTS) <= rests {
+                return None;
+            }
+        }
+        None
+    }
+
     /// Goes in as soon as the door is open for this session, after `LOOKS` looks at most. It also goes in if nobody was inside at any
     /// look and the door is kept for a session: that one stays away.
-    fn look(&self, caller: Caller) -> Option<MutexGuard<'_, ()>> {
+    fn look(&self, caller: Caller) -> Found<'_> {
         let mut is_kept = true;
+        let mut is_idle = true;
         for _ in 0..LOOKS {
             let place = self.place.get();
             if self.is_open(place, caller) {
                 if let Some(inside) = self.lock.try_lock() {
-                    return Some(inside);
+                    return Found::Entry(inside);
                 }
             }
             match place {
                 Place::KeptFor(_) => {}
-                Place::Offered | Place::Taken => is_kept = false,
+                Place::Offered => is_kept = false,
+                Place::Taken => {
+                    is_kept = false;
+                    is_idle = false;
+                }
             }
             pause();
         }
-        if is_kept { self.lock.try_lock() } else { None }
+        if is_kept {
+            if let Some(inside) = self.lock.try_lock() {
+                return Found::Entry(inside);
+            }
+        }
+        if is_idle { Found::Idle } else { Found::Busy }
     }
 
     /// Returns true if a session may go in, as the place is.

@@ -14,7 +14,7 @@
 //! |---|---|
 //! | `Hall::make` | a hall over an engine that was asked nothing yet, and the passes of the sessions 1 to 32 |
 //! | `Hall::ask` | answers one request of the session of a pass; it waits for the turn |
-//! | `Hall::poll` | whether a transaction has finished, and how; it never waits |
+//! | `Hall::poll` | whether a transaction has finished, as far as it is published, and how; it never waits |
 //! | `Hall::close` | takes all passes back, and returns the engine and its [`Entries`] |
 //! | `HallOf::begin`, `serve`, `end` | as `make`, `ask` and `close`, for any server, which may also fail |
 //!
