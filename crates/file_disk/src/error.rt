@@ -7,6 +7,9 @@ use thiserror::Error;
 /// Why a file cannot be opened as a disk.
 #[derive(Debug, Drop, Error)]
 pub enum OpenError {
+    /// The path leads to no regular file: a device, a pipe or a socket.
+    #[error("it is no regular file")]
+    NotRegular,
     /// The file has more bytes than the disk can hold.
     #[error("the file has more than {capacity} bytes")]
     TooLong { capacity: u64 },

@@ -36,8 +36,8 @@ impl FileDisk {
     /// and its name in its folder too. The file is as long as what was written. Its bytes are also kept in memory.
     ///
     /// # Errors
-    /// `Busy`: the file is locked. `TooLong`: it has more than `capacity` bytes. `Io`: it cannot be opened, locked, read or
-    /// synced. `OutOfMemory`: out of memory. A file that was there is unchanged.
+    /// `NotRegular`: it is no regular file. `Busy`: it is locked. `TooLong`: it has more than `capacity` bytes. `Io`: it cannot be
+    /// opened, locked, read or synced. `OutOfMemory`: out of memory. A file that was there is unchanged.
     pub fn open_with_capacity<R: Files<File = File>>(
         rt: &R,
         alloc: Global,
@@ -56,6 +56,7 @@ impl FileDisk {
             .write(true)
             .create(true)
             .open(rt, path)?;
+        require_regular(&file)?;
         lock(&file)?;
         let bytes = read_whole(alloc, &file, capacity)?;
         file.sync_all()?;
@@ -66,6 +67,15 @@ impl FileDisk {
             mirror,
             faults: Faults::none(),
         })
+    }
+}
+
+/// Refuses what is no regular file. A device has no length, so a store in it would seem to be new at each opening.
+fn require_regular(file: &File) -> Result<(), OpenError> {
+    if file.metadata()?.is_file() {
+        Ok(())
+    } else {
+        Err(OpenError::NotRegular)
     }
 }
 

@@ -38,6 +38,12 @@ fn a_file_keeps_what_was_synced(rt: HostRuntime) -> Result<(), Fail> {
         )
     );
     fs::remove_file(&rt, path)?;
+    assert!(rt;
+        matches!(
+            FileDisk::open(&rt, alloc, "/dev/null"),
+            Err(OpenError::NotRegular)
+        )
+    );
     Ok(())
 }
 

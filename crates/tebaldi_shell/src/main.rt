@@ -87,6 +87,9 @@ fn run_on(rt: &HostRuntime, alloc: Global, file: &str, tree: &[u8]) -> u8 {
 fn run_under(rt: &HostRuntime, alloc: Global, file: &str, tree: &[u8]) -> u8 {
     let disk = match FileDisk::open_with_capacity(rt, alloc, file, CAPACITY) {
         Ok(disk) => disk,
+        Err(OpenError::NotRegular) => {
+            return say(rt, CANNOT_OPEN, "it is no regular file");
+        }
         Err(OpenError::Busy) => return say(rt, CANNOT_OPEN, "the file is in use"),
         Err(OpenError::TooLong { .. }) => return say(rt, CANNOT_OPEN, "the file is too long"),
         Err(OpenError::Io(_)) => return say(rt, CANNOT_OPEN, "the file can't be opened"),
