@@ -7,12 +7,12 @@ use Rattle.teb_rules.specs.Tree.{row}
 use Rattle.teb_rules.specs.Accepted.{IsSound, tree_fault}
 use Rattle.teb_rules.specs.Serializes.{StandsBefore}
 use Rattle.teb_rules.specs.Open.{all_rules}
-use Rattle.guarantees.specs.Shapes.{Breaks, one_node, two_sides}
+use Rattle.guarantees.specs.Shapes.{Breaks, Shows, one_node, two_sides}
 use Rattle.guarantees.specs.Runs.{cell, early_reader, late_joiner, writer_underway}
 use Rattle.guarantees.specs.Time.{FollowsCommits, KeepsRealTime}
-use Rattle.guarantees.specs.Reading.{ReadsAreServed}
+use Rattle.guarantees.specs.Reading.{HasWaitingRead, ReadsAreServed}
 use Rattle.std.proofs.lemmas.Bool.{false≢true}
-use Rattle.guarantees.specs.Cascades.{HasNoCascade}
+use Rattle.guarantees.specs.Cascades.{HasCascade, HasNoCascade}
 
 -- these stores are sound
 two_sound : (c : ControlKind) → tree_fault (two_sides c).setup.tree 2 ≡ None → IsSound (two_sides c).setup
@@ -80,10 +80,38 @@ pub stamps_cascade : Breaks HasNoCascade (one_node Timestamp) early_reader
 unfolding all_rules
 stamps_cascade = record { sound = one_sound Timestamp refl; fails = λ f. fallen 2 [] (f.alone 1 refl) }
 
-pub locks_wait : Breaks ReadsAreServed (one_node Locks) early_reader
+pub pipelines_take_another : Shows HasCascade (one_node Pipeline) early_reader
 unfolding all_rules
-locks_wait = record { sound = one_sound Locks refl; fails = λ f. false≢true (f (record { 0 = 2 }) 2 (cell 0) refl refl) }
+pipelines_take_another = record {
+  sound = one_sound Pipeline refl;
+  holds = record { session = record { 0 = 1 }; own = 1; reader = 2; holds = refl; reads = refl; running = refl; falls = refl };
+}
 
-pub pipelines_wait : Breaks ReadsAreServed (one_node Pipeline) writer_underway
+pub stamps_take_another : Shows HasCascade (one_node Timestamp) early_reader
 unfolding all_rules
-pipelines_wait = record { sound = one_sound Pipeline refl; fails = λ f. false≢true (f (record { 0 = 2 }) 2 (cell 0) refl refl) }
+stamps_take_another = record {
+  sound = one_sound Timestamp refl;
+  holds = record { session = record { 0 = 1 }; own = 1; reader = 2; holds = refl; reads = refl; running = refl; falls = refl };
+}
+
+pub locks_block : Breaks ReadsAreServed (one_node Locks) early_reader
+unfolding all_rules
+locks_block = record { sound = one_sound Locks refl; fails = λ f. false≢true (f (record { 0 = 2 }) 2 (cell 0) refl refl) }
+
+pub pipelines_block : Breaks ReadsAreServed (one_node Pipeline) writer_underway
+unfolding all_rules
+pipelines_block = record { sound = one_sound Pipeline refl; fails = λ f. false≢true (f (record { 0 = 2 }) 2 (cell 0) refl refl) }
+
+pub locks_wait : Shows HasWaitingRead (one_node Locks) early_reader
+unfolding all_rules
+locks_wait = record {
+  sound = one_sound Locks refl;
+  holds = record { session = record { 0 = 2 }; cell = cell 0; writer = record { 0 = 1 }; node = record { 0 = 0 }; running = refl; put = refl; waits = refl };
+}
+
+pub pipelines_wait : Shows HasWaitingRead (one_node Pipeline) writer_underway
+unfolding all_rules
+pipelines_wait = record {
+  sound = one_sound Pipeline refl;
+  holds = record { session = record { 0 = 2 }; cell = cell 0; writer = record { 0 = 1 }; node = record { 0 = 0 }; running = refl; put = refl; waits = refl };
+}

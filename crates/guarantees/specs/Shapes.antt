@@ -27,6 +27,11 @@ pub record Breaks (P : Store → List Event → Type 0) (X : Store) (asked : Lis
   pub sound : IsSound X.setup
   pub fails : P X (reached X asked) → ⊥
 
+-- after the requests `asked` of the store X, which is sound, P holds
+pub record Shows (P : Store → List Event → Type 0) (X : Store) (asked : List (Session × Request)) : Type 0 where
+  pub sound : IsSound X.setup
+  pub holds : P X (reached X asked)
+
 -- a leaf under the root
 abbrev pub leaf_of : ControlKind → List ℕ → NodeRow
 leaf_of c types = record { control = c; parent = Some 0; types = types; batch = 1; ordered = false; part = 0; parts = 1 }

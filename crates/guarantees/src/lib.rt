@@ -12,9 +12,9 @@
 //! | [`aborts_stay_alone`] | no cascading aborts | every node is a locks or a snapshot node |
 //! | [`reads_go_on`] | reads neither wait nor break | every node of the path is a timestamp or a snapshot node |
 //!
-//! Three more contracts show where a guarantee ends. Each names a sound store and a list of requests after which the stronger
-//! sentence is false (`Breaks` of `specs/Shapes`): [`greater_batches_lose_time`], [`early_reads_fall`], [`other_reads_wait`]. For the
-//! first, under a timestamp or a snapshot root with batches of two:
+//! Three more contracts show where a guarantee ends: [`greater_batches_lose_time`], [`early_reads_fall`], [`other_reads_wait`]. Each
+//! names a sound store and a list of requests after which the stronger sentence is false (`Breaks` of `specs/Shapes`). The last two
+//! also say what happens then (`Shows`). For the first, under a timestamp or a snapshot root with batches of two:
 //!
 //! ```text
 //!   session 1, side A   Begin                                           keeps a batch of side A open
@@ -29,12 +29,12 @@
 
 ghost use Rattle.teb_rules.specs.laws.Laws.{OfEveryRun, OfEveryStore};
 ghost use Rattle.teb_rules.specs.declared.names.ControlKind.TheVariants.{Locks, Pipeline, Timestamp, Snapshot};
-ghost use Rattle.guarantees.specs.Shapes.{Breaks, one_node, two_sides};
+ghost use Rattle.guarantees.specs.Shapes.{Breaks, Shows, one_node, two_sides};
 ghost use Rattle.guarantees.specs.Runs.{late_joiner, early_reader, writer_underway};
 ghost use Rattle.guarantees.specs.Time.{IsStrict, IsCommitOrdered, KeepsRealTime, FollowsCommits};
 ghost use Rattle.guarantees.specs.Waiting.{HasNoDeadlock};
-ghost use Rattle.guarantees.specs.Reading.{ReadsGoOn, ReadsAreServed};
-ghost use Rattle.guarantees.specs.Cascades.{AbortsAlone, HasNoCascade};
+ghost use Rattle.guarantees.specs.Reading.{ReadsGoOn, ReadsAreServed, HasWaitingRead};
+ghost use Rattle.guarantees.specs.Cascades.{AbortsAlone, HasCascade, HasNoCascade};
 ghost use Rattle.guarantees.specs.Causes.{NamesCauses};
 
 /// Strict serializability: if the root is a locks or a pipeline node, or a leaf, or admits one transaction a batch, a transaction that
@@ -76,14 +76,19 @@ pub fn greater_batches_lose_time()
     ensures commits { Breaks (λ X H. FollowsCommits X.setup H) (two_sides Timestamp) late_joiner }
 {}
 
-/// Under a pipeline and under timestamps an abort can take others with it.
+/// Under a pipeline and under timestamps a version may be read before its writer commits. Then the writer's Abort also aborts the
+/// reader, which is still running.
 pub fn early_reads_fall()
     ensures pipelines { Breaks HasNoCascade (one_node Pipeline) early_reader }
     ensures timestamps { Breaks HasNoCascade (one_node Timestamp) early_reader }
+    ensures pipelines_cascade { Shows HasCascade (one_node Pipeline) early_reader }
+    ensures timestamps_cascade { Shows HasCascade (one_node Timestamp) early_reader }
 {}
 
-/// Under locks and under a pipeline a read can be told to wait.
+/// Under locks and under a pipeline a read can be told to wait for a running transaction that has written the cell.
 pub fn other_reads_wait()
     ensures locks { Breaks ReadsAreServed (one_node Locks) early_reader }
     ensures pipelines { Breaks ReadsAreServed (one_node Pipeline) writer_underway }
+    ensures locks_wait { Shows HasWaitingRead (one_node Locks) early_reader }
+    ensures pipelines_wait { Shows HasWaitingRead (one_node Pipeline) writer_underway }
 {}
