@@ -12,9 +12,9 @@
 //! - A text is *audited* if `audit_of` finds no fault in it (`IsAudited` of `audit_check`).
 //!
 //! The first law is about a history that the rules reach (`OfEveryStore` of `teb_rules::laws`). Its premises: the starting rows
-//! ascend, the printed order is the serial order of the history and the printed rows are its final table (`Reports`), and all
-//! numbers and names can be printed (`CanPrint`). By the second law the reads of exactly the committed transactions are
-//! checked.
+//! ascend, the printed order is the serial order of the history and the printed rows are its final table (`Reports`), all numbers
+//! and names can be printed, and no two tables have the same name (`CanPrint`). By the second law the reads of exactly the committed
+//! transactions are checked.
 //!
 //! **Not claimed**: that a text which passes comes from this store. No function here prints or checks: the bodies are empty,
 //! and the proofs are in `proofs/`.

@@ -13,8 +13,8 @@ use Rattle.session_tasks.specs.declared.error.RunError.TheVariants.{PassSpent}
 use Rattle.session_tasks.specs.Errors.{IsFirstError}
 use Rattle.session_tasks.specs.Tasks.{IsTask}
 
--- The pass has asked MOST_ASKS times. What it has seen is a legal run of the store, and its own entries are a way along the script of its session. In a
--- hall over the store no session of a lower number met an error.
+-- The pass has asked MOST_ASKS times. What it has seen is a legal run of the store, and its own entries are a way along the script of its session. In some
+-- hall over the store there are tasks whose first error this is.
 pub record IsSpentOn {C : Type 0} {g : Ghosts C} (X : Store) (scripts : List (Session × List Line)) (p : Pass C g) : Type 0 where
   pub legal : IsLegal X (seen p)
   pub asks : p.asks ≡ MOST_ASKS

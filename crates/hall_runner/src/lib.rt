@@ -17,7 +17,7 @@
 //! **What is proved.** The entries are one legal run. Those of each session with a script are a whole walk along it, and no other
 //! session has any. The text is that of the history to which the entries lead, and it passes the audit (`served`: `IsServedBy`,
 //! `AreServed`). The history is serialized by its serial order (`serialized`). A spent pass has seen a legal run, and has come
-//! some way along its script; no session of a lower number met an error (`IsSpentOn`).
+//! some way along its script (`IsSpentOn`). That no session of a lower number met an error holds by inspection of the code.
 //!
 //! **Not claimed**: that a run ends, in what time, or which history results: two runs of one input may differ.
 #![tactic(auto)]

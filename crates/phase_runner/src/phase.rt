@@ -25,7 +25,7 @@ use version_chain::Chains;
 /// Returns the first phase, after the task has run in it over chains with no version. Its report is appended.
 ///
 /// # Errors
-/// `AllocError`: out of memory. The text is unchanged, and what has run is dropped.
+/// `AllocError`: out of memory. What has run is dropped.
 pub fn first_phase<C: Chains>(
     alloc: Global,
     chains: C,
@@ -46,7 +46,7 @@ pub fn first_phase<C: Chains>(
 /// appended.
 ///
 /// # Errors
-/// `AllocError`: out of memory. The text is unchanged, and all phases are dropped.
+/// `AllocError`: out of memory. All phases are dropped.
 pub fn next_phase<C: Chains>(
     alloc: Global,
     chains: C,

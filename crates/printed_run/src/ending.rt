@@ -1,6 +1,6 @@
 //! The end of a printed run, and of a report.
 
-ghost use Rattle.std.specs.Prelude.{OnOk};
+ghost use Rattle.std.specs.Prelude.{◌≡◌, OnErr, OnOk};
 ghost use Rattle.script_text.specs.Named.{RowsNamed};
 ghost use Rattle.serial_order.specs.Tables.{IsFinalRows};
 ghost use Rattle.printed_run.specs.Printed.{IsReportAfter};
@@ -21,7 +21,8 @@ pub fn put_ending<C: Chains>(
     engine: &Engine<C>,
 ) -> Result<(), AllocError>
     requires { (rows : _) → IsFinalRows engine.now.store engine.now.events rows → RowsNamed engine.now.names rows }
-    ensures { OnOk result (IsReportAfter out.old.items engine.now.store engine.now.names engine.now.events out.new.items) }
+    ensures ok { OnOk result (IsReportAfter out.old.items engine.now.store engine.now.names engine.now.events out.new.items) }
+    ensures err { OnErr result (out.new.items ≡ out.old.items) }
 {
     let order = order(alloc, engine)?;
     let rows = tables(alloc, engine)?;

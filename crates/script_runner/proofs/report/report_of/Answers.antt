@@ -18,4 +18,4 @@ returns g c = λ m answers over told.
     let lines = c.in_ok-text.ensures answers (subst (λ (b : NameBook). HasLines c.args.replies b answers) (sym names) told)
     (replies_named m _ _ _ _ over c.setup.result.now.names answers names refl) in
     let front : c.in_ok-text.text.items ≡ flat_map (reply_text engine.names) answers = lines ∙ ap (λ (b : NameBook). flat_map (reply_text b) answers) names in
-    subst (λ (text : List ℕ). IsReportAfter text engine.store engine.names engine.events c.put_ending.new.out.items) front c.in_ok-put_ending.ensures
+    subst (λ (text : List ℕ). IsReportAfter text engine.store engine.names engine.events c.put_ending.new.out.items) front c.in_ok-put_ending.ensures.ok
