@@ -1,10 +1,11 @@
 //! Events.
 
 ghost use Rattle.std.specs.Prelude.{◌≡◌};
-ghost use Rattle.c_forms.specs.Events.{no_event, event_form as form};
+ghost use Rattle.c_forms.specs.Events.{no_event, row_event, event_form as form};
 
 use crate::causes::{CauseForm, cause_form};
 use teb_rules::history::Event;
+use teb_rules::names::Cell;
 
 /// An event as C has it. `happened` is 1 to 7 in the order of `Event`'s variants. A field that the variant does not have is 0,
 /// and so is `value` unless `present`.
@@ -46,20 +47,10 @@ pub fn event_form(event: &Event) -> EventForm
             from,
             value,
         } => EventForm {
-            table: cell.table.0,
-            key: cell.key,
             from: from.0,
-            present: value.is_some(),
-            value: value.unwrap_or(0),
-            ..of(2, txn.0)
+            ..of_row(2, txn.0, cell, value)
         },
-        Event::Put { txn, cell, value } => EventForm {
-            table: cell.table.0,
-            key: cell.key,
-            present: value.is_some(),
-            value: value.unwrap_or(0),
-            ..of(3, txn.0)
-        },
+        Event::Put { txn, cell, value } => of_row(3, txn.0, cell, value),
         Event::Ready(txn) => of(4, txn.0),
         Event::Done(txn) => of(5, txn.0),
         Event::Gone { txn, cause } => EventForm {
@@ -70,6 +61,20 @@ pub fn event_form(event: &Event) -> EventForm
     }
 }
 
+/// Returns the form of an event with a row and its value.
+fn of_row(happened: u8, txn: u32, cell: Cell, value: Option<i64>) -> EventForm
+    ensures { result ≡ row_event happened txn cell value }
+{
+    EventForm {
+        table: cell.table.0,
+        key: cell.key,
+        present: value.is_some(),
+        value: value.unwrap_or(0),
+        ..of(happened, txn)
+    }
+}
+
+/// Returns the form of an event that has a transaction only.
 fn of(happened: u8, txn: u32) -> EventForm
     ensures { result ≡ no_event happened txn }
 {

@@ -5,5 +5,5 @@ pub mod Courses
 pub mod Naming
 pub mod Copies
 pub mod Results
-pub mod Halting
+pub mod Errors
 pub mod Memory

@@ -7,9 +7,9 @@ ghost use Rattle.commit_journal.specs.Kept.{IsSameStore};
 ghost use Rattle.script_runner.specs.replay.Logs.{Requests, log_of};
 ghost use Rattle.crash_runner.specs.Underway.{IsUnderway, HasAsked, StopsAt, effects, weight};
 ghost use Rattle.commit_journal.specs.declared.error.DurableError.TheVariants as errors;
-ghost use Rattle.crash_runner.specs.declared.halt.Halt.TheVariants as halts;
+ghost use Rattle.crash_runner.specs.declared.error.RunError.TheVariants as run_error;
 
-use crate::halt::Halt;
+use crate::error::RunError;
 use commit_journal::{Durable, DurableError};
 use crash_disk::Disk;
 use script_text::{Answered, MOST_LINES};
@@ -24,7 +24,7 @@ pub(crate) fn ask<C: Chains, D: Disk>(
     session: Session,
     request: Request,
     log: &mut Vec<Answered>,
-) -> Result<(), Halt>
+) -> Result<(), RunError>
     requires underway { IsUnderway (D.tally durable.old.disk).promise D.tally D.safe durable.old log.old.items }
     requires wide { default_capacity ≤ D.capacity durable.old.disk }
     requires few { weight request + effects durable.old.events ≤ MOST_LINES }
@@ -35,30 +35,30 @@ pub(crate) fn ask<C: Chains, D: Disk>(
     ensures few { OnOk result (effects durable.new.events ≤ weight request + effects durable.old.events) }
     ensures one { OnOk result (effects durable.new.events ≤ 1 + effects durable.old.events) }
     // For any further requests.
-    ensures stopped { (rest : Requests) → IsErrOf result halts.Stopped
+    ensures stopped { (rest : Requests) → IsErrOf result run_error.DiskFault
         → StopsAt (D.tally durable.old.disk).promise durable.old.store (log.old.items ++ log_of durable.old.store durable.old.events ((session, request) ∷ rest))
         (history_after durable.old.store durable.old.events ((session, request) ∷ rest))
         log.new.items (D.tally durable.new.disk) (D.safe durable.new.disk) }
-    ensures halts { IfErr result (λ halt. (halt ≡ halts.Stopped) ↔ (durable.new.stopped ≡ true)) }
+    ensures error { IfErr result (λ error. (error ≡ run_error.DiskFault) ↔ (durable.new.stopped ≡ true)) }
 {
     match durable.ask(alloc, session, request) {
         Ok(reply) => {
             log.push(Answered { session, reply })?;
             Ok(())
         }
-        Err(error) => Err(halt_of(error)),
+        Err(error) => Err(error_of(error)),
     }
 }
 
 // Returns why the run ends. A disk that has not failed before, and has room, can only fail now.
-fn halt_of(error: DurableError) -> Halt
+fn error_of(error: DurableError) -> RunError
     requires running { error ≡ errors.Stopped → ⊥ }
     requires room { error ≡ errors.Full → ⊥ }
-    ensures { (result ≡ halts.Stopped) ↔ (error ≡ errors.DiskFault) }
+    ensures { (result ≡ run_error.DiskFault) ↔ (error ≡ errors.DiskFault) }
 {
     match error {
-        DurableError::DiskFault => Halt::Stopped,
-        DurableError::OutOfMemory => Halt::OutOfMemory,
+        DurableError::DiskFault => RunError::DiskFault,
+        DurableError::OutOfMemory => RunError::OutOfMemory,
         DurableError::Stopped | DurableError::Full => unreachable!(),
     }
 }

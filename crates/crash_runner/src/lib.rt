@@ -27,7 +27,7 @@
 mod asking;
 mod crash;
 mod ends;
-mod halt;
+mod error;
 mod kept;
 mod lines;
 mod on_disk;

@@ -6,10 +6,10 @@ ghost use Rattle.crash_disk.specs.Sizes.{default_capacity};
 ghost use Rattle.commit_journal.specs.Kept.{IsSameStore};
 ghost use Rattle.script_runner.specs.replay.Logs.{Requests, log_of, requests_of};
 ghost use Rattle.crash_runner.specs.Underway.{IsUnderway, HasAsked, StopsAt, effects};
-ghost use Rattle.crash_runner.specs.declared.halt.Halt.TheVariants as halts;
+ghost use Rattle.crash_runner.specs.declared.error.RunError.TheVariants as run_error;
 
 use crate::asking::ask;
-use crate::halt::Halt;
+use crate::error::RunError;
 use commit_journal::Durable;
 use crash_disk::Disk;
 use script_text::{Answered, Line, MOST_LINES};
@@ -22,7 +22,7 @@ pub(crate) fn ask_lines<C: Chains, D: Disk>(
     durable: &mut Durable<C, D>,
     lines: &[Line],
     log: &mut Vec<Answered>,
-) -> Result<(), Halt>
+) -> Result<(), RunError>
     requires underway { IsUnderway (D.tally durable.old.disk).promise D.tally D.safe durable.old log.old.items }
     requires wide { default_capacity ≤ D.capacity durable.old.disk }
     requires few { length lines.now + effects durable.old.events ≤ MOST_LINES }
@@ -32,11 +32,11 @@ pub(crate) fn ask_lines<C: Chains, D: Disk>(
     ensures asked { OnOk result (HasAsked durable.old.store (requests_of lines.now) log.old.items durable.old.events log.new.items durable.new.events) }
     ensures few { OnOk result (effects durable.new.events ≤ length lines.now + effects durable.old.events) }
     // For any further requests.
-    ensures stopped { (rest : Requests) → IsErrOf result halts.Stopped
+    ensures stopped { (rest : Requests) → IsErrOf result run_error.DiskFault
         → StopsAt (D.tally durable.old.disk).promise durable.old.store (log.old.items ++ log_of durable.old.store durable.old.events (requests_of lines.now ++ rest))
         (history_after durable.old.store durable.old.events (requests_of lines.now ++ rest))
         log.new.items (D.tally durable.new.disk) (D.safe durable.new.disk) }
-    ensures halts { IfErr result (λ halt. (halt ≡ halts.Stopped) ↔ (durable.new.stopped ≡ true)) }
+    ensures error { IfErr result (λ error. (error ≡ run_error.DiskFault) ↔ (durable.new.stopped ≡ true)) }
 {
     for line in lines {
         ask(alloc, durable, line.session, line.request, log)?;

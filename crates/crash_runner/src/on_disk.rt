@@ -9,10 +9,10 @@ ghost use Rattle.crash_disk.specs.Sizes.{default_capacity};
 ghost use Rattle.commit_journal.specs.Kept.{IsSameStore};
 ghost use Rattle.script_runner.specs.replay.Logs.{log_of, replayed};
 ghost use Rattle.crash_runner.specs.Underway.{IsUnderway, HasAsked, StopsAt, IsRunOn, effects};
-ghost use Rattle.crash_runner.specs.declared.halt.Halt.TheVariants as halts;
+ghost use Rattle.crash_runner.specs.declared.error.RunError.TheVariants as run_error;
 
 use crate::ends::ask_ends;
-use crate::halt::Halt;
+use crate::error::RunError;
 use crate::lines::ask_lines;
 use chain_pool::PooledChains;
 use commit_journal::{CreateError, Durable};
@@ -71,8 +71,8 @@ fn replay_durable<C: Chains, D: Disk + Drop>(
     let mut given = Vec::new(alloc);
     let stopped = match ask_all(alloc, &mut durable, lines, &mut given) {
         Ok(()) => false,
-        Err(Halt::Stopped) => true,
-        Err(Halt::OutOfMemory) => return Err(AllocError),
+        Err(RunError::DiskFault) => true,
+        Err(RunError::OutOfMemory) => return Err(AllocError),
     };
     Ok(DiskRun {
         given,
@@ -87,7 +87,7 @@ fn ask_all<C: Chains, D: Disk>(
     durable: &mut Durable<C, D>,
     lines: &[Line],
     log: &mut Vec<Answered>,
-) -> Result<(), Halt>
+) -> Result<(), RunError>
     requires wide { default_capacity ≤ D.capacity durable.old.disk }
     requires underway { IsUnderway (D.tally durable.old.disk).promise D.tally D.safe durable.old log.old.items }
     requires new { durable.old.events ≡ [] }
@@ -98,11 +98,11 @@ fn ask_all<C: Chains, D: Disk>(
     ensures underway { OnOk result (IsUnderway (D.tally durable.old.disk).promise D.tally D.safe durable.new log.new.items) }
     ensures few { OnOk result (effects durable.new.events ≤ MOST_LINES) }
     ensures asked { OnOk result (HasAsked durable.old.store (replayed durable.old.store [] lines.now) [] [] log.new.items durable.new.events) }
-    ensures stopped { IsErrOf result halts.Stopped
+    ensures stopped { IsErrOf result run_error.DiskFault
         → StopsAt (D.tally durable.old.disk).promise durable.old.store (log_of durable.old.store [] (replayed durable.old.store [] lines.now))
         (history_after durable.old.store [] (replayed durable.old.store [] lines.now))
         log.new.items (D.tally durable.new.disk) (D.safe durable.new.disk) }
-    ensures halts { IfErr result (λ halt. (halt ≡ halts.Stopped) ↔ (durable.new.stopped ≡ true)) }
+    ensures error { IfErr result (λ error. (error ≡ run_error.DiskFault) ↔ (durable.new.stopped ≡ true)) }
 {
     ask_lines(alloc, durable, lines, log)?;
     let holders = holding_sessions(alloc, durable.engine().history())?;

@@ -62,7 +62,7 @@ impl Answers for Bank {
 
 /// Why there is no bank, or no transfer.
 #[derive(Debug, Drop, Error)]
-pub enum Stopped {
+pub enum BankError {
     #[error("there is no bank in the file: {0}")]
     NotOpened(OpenError),
     /// The engine, or its part of the file, is full until the next epoch.
@@ -84,19 +84,19 @@ pub enum Stopped {
     OutOfMemory,
 }
 
-impl From<AllocError> for Stopped {
-    fn from(_error: AllocError) -> Stopped {
-        Stopped::OutOfMemory
+impl From<AllocError> for BankError {
+    fn from(_error: AllocError) -> BankError {
+        BankError::OutOfMemory
     }
 }
 
 /// Returns the setup of the tree text. It is read again for each epoch.
-fn setup(alloc: Global) -> Result<Setup, Stopped>
+fn setup(alloc: Global) -> Result<Setup, BankError>
     ensures { IfOk result (λ s. IsWhole (setup_view s)) }
 {
     match read_tree(alloc, TREE) {
         Ok(setup) => Ok(setup),
-        Err(_) => Err(Stopped::BadTree),
+        Err(_) => Err(BankError::BadTree),
     }
 }
 
@@ -104,10 +104,10 @@ fn setup(alloc: Global) -> Result<Setup, Stopped>
 ///
 /// # Errors
 /// `NotOpened`, with the reason. `BadTree` if the tree text is not read, also if memory runs out. The disk is dropped.
-pub fn open_bank(alloc: Global, disk: FileDisk) -> Result<Bank, Stopped> {
+pub fn open_bank(alloc: Global, disk: FileDisk) -> Result<Bank, BankError> {
     match EngineStore::open(alloc, disk, setup(alloc)?, PooledChains::new(alloc)) {
         Ok(bank) => Ok(bank),
-        Err(refused) => Err(Stopped::NotOpened(refused.why)),
+        Err(refused) => Err(BankError::NotOpened(refused.why)),
     }
 }
 
@@ -115,11 +115,11 @@ pub fn open_bank(alloc: Global, disk: FileDisk) -> Result<Bank, Stopped> {
 ///
 /// # Errors
 /// Those of `transfer` and `next_epoch`. The bank is dropped.
-pub fn move_money(alloc: Global, mut bank: Bank) -> Result<(Bank, i64), Stopped> {
+pub fn move_money(alloc: Global, mut bank: Bank) -> Result<(Bank, i64), BankError> {
     match transfer(alloc, &mut bank) {
         Ok(number) => return Ok((bank, number)),
-        Err(Stopped::Full) => {}
-        Err(stopped) => return Err(stopped),
+        Err(BankError::Full) => {}
+        Err(error) => return Err(error),
     }
     let mut bank = next_epoch(alloc, bank)?;
     let number = transfer(alloc, &mut bank)?;
@@ -130,10 +130,10 @@ pub fn move_money(alloc: Global, mut bank: Bank) -> Result<(Bank, i64), Stopped>
 ///
 /// # Errors
 /// `NoEpoch`, with the reason. `BadTree` if the tree text is not read, also if memory runs out. The bank is dropped.
-pub fn next_epoch(alloc: Global, bank: Bank) -> Result<Bank, Stopped> {
+pub fn next_epoch(alloc: Global, bank: Bank) -> Result<Bank, BankError> {
     match bank.next_epoch(alloc, setup(alloc)?, PooledChains::new(alloc)) {
         Ok((bank, _ended)) => Ok(bank),
-        Err(refused) => Err(Stopped::NoEpoch(refused.why)),
+        Err(refused) => Err(BankError::NoEpoch(refused.why)),
     }
 }
 
@@ -142,7 +142,7 @@ pub fn next_epoch(alloc: Global, bank: Bank) -> Result<Bank, Stopped> {
 /// # Errors
 /// `Full` if the engine, or its part of the file, is full. `Refused`, `InTheWay` or `NoAnswer` if a request is not granted.
 /// The transaction is ended, unless that fails too.
-pub fn transfer(alloc: Global, bank: &mut impl Answers) -> Result<i64, Stopped> {
+pub fn transfer(alloc: Global, bank: &mut impl Answers) -> Result<i64, BankError> {
     let moved = steps(alloc, bank);
     if moved.is_err() {
         let _ended = bank.answer(alloc, Request::End);
@@ -151,7 +151,7 @@ pub fn transfer(alloc: Global, bank: &mut impl Answers) -> Result<i64, Stopped> 
 }
 
 /// Makes the requests of a transfer: 1 from one account to another, and the number of the transfer.
-fn steps(alloc: Global, bank: &mut impl Answers) -> Result<i64, Stopped> {
+fn steps(alloc: Global, bank: &mut impl Answers) -> Result<i64, BankError> {
     ask(alloc, bank, Request::Begin(TRANSFER))?;
     let count = Cell {
         table: TRANSFERS,
@@ -166,21 +166,26 @@ fn steps(alloc: Global, bank: &mut impl Answers) -> Result<i64, Stopped> {
 }
 
 /// Adds an amount to the balance of an account.
-fn add(alloc: Global, bank: &mut impl Answers, account: Cell, amount: i64) -> Result<(), Stopped> {
+fn add(
+    alloc: Global,
+    bank: &mut impl Answers,
+    account: Cell,
+    amount: i64,
+) -> Result<(), BankError> {
     ask(alloc, bank, Request::Read(account))?;
     ask(alloc, bank, Request::Add(account, amount))?;
     Ok(())
 }
 
 /// Asks the store. Returns the value of a row that was read, 0 if there is none, and 0 after other requests.
-fn ask(alloc: Global, bank: &mut impl Answers, request: Request) -> Result<i64, Stopped> {
+fn ask(alloc: Global, bank: &mut impl Answers, request: Request) -> Result<i64, BankError> {
     match bank.answer(alloc, request) {
         Ok(Reply::Value(value)) => Ok(value.unwrap_or(0)),
-        Ok(Reply::Refused(Refusal::Full)) | Err(AskError::Full) => Err(Stopped::Full),
-        Ok(Reply::Refused(why)) => Err(Stopped::Refused(why)),
-        Ok(Reply::Again { .. } | Reply::Aborted(_)) => Err(Stopped::InTheWay),
+        Ok(Reply::Refused(Refusal::Full)) | Err(AskError::Full) => Err(BankError::Full),
+        Ok(Reply::Refused(why)) => Err(BankError::Refused(why)),
+        Ok(Reply::Again { .. } | Reply::Aborted(_)) => Err(BankError::InTheWay),
         Ok(_) => Ok(0),
-        Err(error) => Err(Stopped::NoAnswer(error)),
+        Err(error) => Err(BankError::NoAnswer(error)),
     }
 }
 

@@ -1,6 +1,6 @@
 //! Transfers that share the syncs of one.
 
-use crate::bank::{Answers, Bank, SESSION, Stopped, next_epoch, transfer};
+use crate::bank::{Answers, Bank, BankError, SESSION, next_epoch, transfer};
 use chain_pool::PooledChains;
 use engine_store::{AskError, EngineGroup};
 use file_disk::FileDisk;
@@ -25,31 +25,31 @@ pub fn move_money_together(
     alloc: Global,
     bank: Bank,
     most: u32,
-) -> Result<(Bank, Vec<i64>), Stopped> {
+) -> Result<(Bank, Vec<i64>), BankError> {
     let (bank, numbers) = transfers(alloc, bank, most)?;
     if !numbers.is_empty() {
         return Ok((bank, numbers));
     }
     let (bank, numbers) = transfers(alloc, next_epoch(alloc, bank)?, most)?;
     if numbers.is_empty() {
-        return Err(Stopped::Full);
+        return Err(BankError::Full);
     }
     Ok((bank, numbers))
 }
 
 /// Makes transfers until the epoch is full, at most `most`, and returns their numbers once they are in the file.
-fn transfers(alloc: Global, bank: Bank, most: u32) -> Result<(Bank, Vec<i64>), Stopped> {
+fn transfers(alloc: Global, bank: Bank, most: u32) -> Result<(Bank, Vec<i64>), BankError> {
     let mut numbers = Vec::with_capacity(alloc, most as usize)?;
     if bank.is_stopped() {
-        return Err(Stopped::NoAnswer(AskError::Stopped));
+        return Err(BankError::NoAnswer(AskError::Stopped));
     }
     let mut group = bank.begin_group(alloc);
     let ended = gather(alloc, &mut group, &mut numbers, most);
     let (bank, written) = group.sync();
     match (ended, written) {
-        (Ok(()) | Err(Stopped::Full), Ok(())) => Ok((bank, numbers)),
-        (Err(stopped), Ok(())) => Err(stopped),
-        (_, Err(_)) => Err(Stopped::NoAnswer(AskError::Unsure)),
+        (Ok(()) | Err(BankError::Full), Ok(())) => Ok((bank, numbers)),
+        (Err(error), Ok(())) => Err(error),
+        (_, Err(_)) => Err(BankError::NoAnswer(AskError::Unsure)),
     }
 }
 
@@ -59,11 +59,11 @@ fn gather(
     group: &mut BankGroup,
     numbers: &mut Vec<i64>,
     most: u32,
-) -> Result<(), Stopped> {
+) -> Result<(), BankError> {
     for _ in 0..most {
         let number = transfer(alloc, group)?;
         if numbers.push(number).is_err() {
-            return Err(Stopped::OutOfMemory);
+            return Err(BankError::OutOfMemory);
         }
     }
     Ok(())

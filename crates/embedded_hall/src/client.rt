@@ -26,7 +26,7 @@ const ATTEMPTS: u32 = 1000;
 
 /// Why a transaction cannot go on.
 #[derive(Debug, Drop)]
-pub enum Stopped {
+pub enum TransferError {
     /// The store has aborted the transaction. It may start over.
     Aborted,
     /// The store does not accept the request, or is full.
@@ -58,17 +58,17 @@ fn move_money<C: Chains, R: Wait>(
     pass: &mut Pass<C>,
     from: u32,
     to: u32,
-) -> Result<(), Stopped>
+) -> Result<(), TransferError>
     requires { IsPassOf hall.now pass.old }
     ensures { IsPassOf hall.now pass.new × (pass.new.session ≡ pass.old.session) }
 {
     for _ in 0..ATTEMPTS {
         match attempt(rt, hall, pass, from, to) {
-            Err(Stopped::Aborted) => thread::yield_now(),
+            Err(TransferError::Aborted) => thread::yield_now(),
             done => return done,
         }
     }
-    Err(Stopped::Aborted)
+    Err(TransferError::Aborted)
 }
 
 /// Makes one transaction. An error other than `Aborted` leaves it open.
@@ -78,7 +78,7 @@ fn attempt<C: Chains, R: Wait>(
     pass: &mut Pass<C>,
     from: u32,
     to: u32,
-) -> Result<(), Stopped>
+) -> Result<(), TransferError>
     requires { IsPassOf hall.now pass.old }
     ensures { IsPassOf hall.now pass.new × (pass.new.session ≡ pass.old.session) }
 {
@@ -97,17 +97,17 @@ fn ask<C: Chains, R: Wait>(
     hall: &Hall<C>,
     pass: &mut Pass<C>,
     request: Request,
-) -> Result<Reply, Stopped>
+) -> Result<Reply, TransferError>
     requires { IsPassOf hall.now pass.old }
     ensures { IsPassOf hall.now pass.new × (pass.new.session ≡ pass.old.session) }
 {
     for _ in rt.forever() {
         match hall.ask(rt, pass, request) {
             Ok(Reply::Again { .. }) => thread::yield_now(),
-            Ok(Reply::Aborted(_)) => return Err(Stopped::Aborted),
-            Ok(Reply::Refused(why)) => return Err(Stopped::Refused(why)),
+            Ok(Reply::Aborted(_)) => return Err(TransferError::Aborted),
+            Ok(Reply::Refused(why)) => return Err(TransferError::Refused(why)),
             Ok(reply) => return Ok(reply),
-            Err(why) => return Err(Stopped::NotAsked(why)),
+            Err(why) => return Err(TransferError::NotAsked(why)),
         }
     }
     unreachable!()

@@ -25,7 +25,7 @@ pub struct Transfer {
 
 /// Why a transaction cannot go on.
 #[derive(Debug, Drop, Error)]
-pub enum Stopped {
+pub enum TransferError {
     /// An older transaction is in the way. Ask again once other sessions have gone on.
     #[error("an older transaction is in the way")]
     Waits,
@@ -42,9 +42,9 @@ pub enum Stopped {
     OutOfMemory,
 }
 
-impl From<AllocError> for Stopped {
-    fn from(_error: AllocError) -> Stopped {
-        Stopped::OutOfMemory
+impl From<AllocError> for TransferError {
+    fn from(_error: AllocError) -> TransferError {
+        TransferError::OutOfMemory
     }
 }
 
@@ -56,18 +56,18 @@ pub fn move_money(
     store: &mut Engine<PooledChains>,
     session: Session,
     transfer: &Transfer,
-) -> Result<(), Stopped> {
+) -> Result<(), TransferError> {
     for _ in 0..ATTEMPTS {
         match attempt(store, session, transfer) {
             Ok(()) => return Ok(()),
-            Err(Stopped::Aborted) => {}
-            Err(stopped) => {
+            Err(TransferError::Aborted) => {}
+            Err(error) => {
                 ask(store, session, Request::Abort)?;
-                return Err(stopped);
+                return Err(error);
             }
         }
     }
-    Err(Stopped::Aborted)
+    Err(TransferError::Aborted)
 }
 
 /// Makes one transaction. An error other than `Aborted` leaves it open.
@@ -75,12 +75,12 @@ fn attempt(
     store: &mut Engine<PooledChains>,
     session: Session,
     transfer: &Transfer,
-) -> Result<(), Stopped> {
+) -> Result<(), TransferError> {
     let (from, to) = (account(transfer.from), account(transfer.to));
     let amount = i64::from(transfer.amount);
     ask(store, session, Request::Begin(TRANSFER))?;
     if ask(store, session, Request::Read(from))? < amount {
-        return Err(Stopped::TooLittle);
+        return Err(TransferError::TooLittle);
     }
     ask(store, session, Request::Add(from, -amount))?;
     ask(store, session, Request::Read(to))?;
@@ -97,14 +97,14 @@ pub fn ask(
     store: &mut Engine<PooledChains>,
     session: Session,
     request: Request,
-) -> Result<i64, Stopped> {
+) -> Result<i64, TransferError> {
     store.ready()?;
     match store.ask(session, request) {
         Reply::Value(value) => Ok(value.unwrap_or(0)),
-        Reply::Again { .. } => Err(Stopped::Waits),
+        Reply::Again { .. } => Err(TransferError::Waits),
         Reply::Aborted(Cause::Asked) => Ok(0),
-        Reply::Aborted(_) => Err(Stopped::Aborted),
-        Reply::Refused(why) => Err(Stopped::Refused(why)),
+        Reply::Aborted(_) => Err(TransferError::Aborted),
+        Reply::Refused(why) => Err(TransferError::Refused(why)),
         _ => Ok(0),
     }
 }

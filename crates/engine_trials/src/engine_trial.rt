@@ -2,11 +2,11 @@
 
 ghost use Rattle.std.specs.Prelude.{◌≡◌, [], IfOk, IsTrue};
 
+use crate::error::TrialError;
 use crate::lent::lent;
 use crate::plan::{MIDST, READER, SALE, SOLD, TREE, requests};
 use crate::refusing::Refusing;
 use crate::room::make_room;
-use crate::trouble::Trouble;
 use chain_pool::PooledChains;
 use engine_core::Engine;
 use std::alloc::{AllocError, Global};
@@ -21,7 +21,11 @@ use version_chain::Chains;
 /// # Errors
 /// `Memory`: out of memory. `Changed` if a refused call changes what is lent, or if room is refused and should not be, or the
 /// reverse.
-pub fn engine_text(alloc: Global, before: usize, served: Option<usize>) -> Result<String, Trouble> {
+pub fn engine_text(
+    alloc: Global,
+    before: usize,
+    served: Option<usize>,
+) -> Result<String, TrialError> {
     let mut engine = trial_engine(alloc, served)?;
     read_before(&mut engine, before)?;
     let mut text = String::new(alloc);
@@ -36,7 +40,7 @@ pub fn engine_text(alloc: Global, before: usize, served: Option<usize>) -> Resul
     if engine.chains().has_refused() == served.is_some() {
         Ok(text)
     } else {
-        Err(Trouble::Changed)
+        Err(TrialError::Changed)
     }
 }
 
@@ -50,11 +54,11 @@ const MOST_EVENTS: usize = 8192;
 pub fn trial_engine(
     alloc: Global,
     served: Option<usize>,
-) -> Result<Engine<Refusing<PooledChains>>, Trouble>
+) -> Result<Engine<Refusing<PooledChains>>, TrialError>
     ensures { IfOk result (λ e. e.events ≡ []) }
 {
     let Ok(setup) = read_tree(alloc, TREE) else {
-        return Err(Trouble::Memory);
+        return Err(TrialError::Memory);
     };
     let chains = Refusing::after(served, PooledChains::new(alloc));
     Ok(Engine::new(alloc, setup, chains)?)
@@ -64,7 +68,7 @@ pub fn trial_engine(
 ///
 /// # Errors
 /// `Memory`: out of memory. `Changed` if it does not ask a second time.
-pub fn events_of_room(alloc: Global) -> Result<usize, Trouble> {
+pub fn events_of_room(alloc: Global) -> Result<usize, TrialError> {
     let mut engine = trial_engine(alloc, None)?;
     answer(&mut engine, Request::Begin(SALE))?;
     for events in 1..MOST_EVENTS {
@@ -73,11 +77,11 @@ pub fn events_of_room(alloc: Global) -> Result<usize, Trouble> {
             return Ok(events);
         }
     }
-    Err(Trouble::Changed)
+    Err(TrialError::Changed)
 }
 
 /// Makes a transaction of this many events that reads and is aborted; none for fewer than two.
-fn read_before<C: Chains>(engine: &mut Engine<C>, events: usize) -> Result<(), Trouble> {
+fn read_before<C: Chains>(engine: &mut Engine<C>, events: usize) -> Result<(), TrialError> {
     if events < 2 {
         return Ok(());
     }
@@ -89,7 +93,7 @@ fn read_before<C: Chains>(engine: &mut Engine<C>, events: usize) -> Result<(), T
 }
 
 /// Asks for a session that makes none of the requests.
-fn answer<C: Chains>(engine: &mut Engine<C>, request: Request) -> Result<(), Trouble> {
+fn answer<C: Chains>(engine: &mut Engine<C>, request: Request) -> Result<(), TrialError> {
     engine.ready()?;
     let _reply = engine.ask(READER, request);
     Ok(())

@@ -5,11 +5,11 @@ ghost use Rattle.teb_rules.specs.history.Phases.{numbers};
 ghost use Rattle.session_server.specs.Passes.{IsPassOf, IsNew, number_of};
 
 use crate::engine_trial::trial_engine;
+use crate::error::TrialError;
 use crate::lent::lent;
 use crate::plan::{REPORT, SALE, SOLD};
 use crate::refusing::Refusing;
 use crate::room::ATTEMPTS;
-use crate::trouble::Trouble;
 use chain_pool::PooledChains;
 use engine_core::Engine;
 use session_server::{AskError, Entries, Hall, Pass};
@@ -35,9 +35,9 @@ pub fn hall_text<R: Wait>(
     alloc: Global,
     before: usize,
     served: Option<usize>,
-) -> Result<String, Trouble> {
+) -> Result<String, TrialError> {
     let Ok((hall, passes)) = Hall::make(alloc, trial_engine(alloc, served)?) else {
-        return Err(Trouble::Memory);
+        return Err(TrialError::Memory);
     };
     let (engine, entries) = closed_after(rt, hall, passes, before)?;
     let mut text = String::new(alloc);
@@ -48,7 +48,7 @@ pub fn hall_text<R: Wait>(
     if engine.chains().has_refused() == served.is_some() {
         Ok(text)
     } else {
-        Err(Trouble::Changed)
+        Err(TrialError::Changed)
     }
 }
 
@@ -58,15 +58,15 @@ fn closed_after<R: Wait>(
     hall: Hall<Tried>,
     mut passes: Vec<Pass<Tried>>,
     before: usize,
-) -> Result<(Engine<Tried>, Entries), Trouble>
+) -> Result<(Engine<Tried>, Entries), TrialError>
     requires new { All (IsNew hall) passes.items }
     requires sessions { map number_of passes.items ≡ numbers SESSIONS }
 {
     let Some(mut reader) = passes.pop() else {
-        return Err(Trouble::Changed);
+        return Err(TrialError::Changed);
     };
     let Some(mut writer) = passes.pop() else {
-        return Err(Trouble::Changed);
+        return Err(TrialError::Changed);
     };
     read_before(rt, &hall, &mut writer, before)?;
     write_and_read(rt, &hall, &mut writer, &mut reader)?;
@@ -81,7 +81,7 @@ fn read_before<C: Chains, R: Wait>(
     hall: &Hall<C>,
     pass: &mut Pass<C>,
     events: usize,
-) -> Result<(), Trouble>
+) -> Result<(), TrialError>
     requires { IsPassOf hall.now pass.old }
     ensures { IsPassOf hall.now pass.new × (pass.new.session ≡ pass.old.session) }
 {
@@ -101,7 +101,7 @@ fn write_and_read<C: Chains, R: Wait>(
     hall: &Hall<C>,
     writer: &mut Pass<C>,
     reader: &mut Pass<C>,
-) -> Result<(), Trouble>
+) -> Result<(), TrialError>
     requires writer { IsPassOf hall.now writer.old }
     requires reader { IsPassOf hall.now reader.old }
     ensures writer { IsPassOf hall.now writer.new × (writer.new.session ≡ writer.old.session) }
@@ -121,7 +121,7 @@ fn ask<C: Chains, R: Wait>(
     hall: &Hall<C>,
     pass: &mut Pass<C>,
     request: Request,
-) -> Result<(), Trouble>
+) -> Result<(), TrialError>
     requires { IsPassOf hall.now pass.old }
     ensures { IsPassOf hall.now pass.new × (pass.new.session ≡ pass.old.session) }
 {
@@ -129,13 +129,13 @@ fn ask<C: Chains, R: Wait>(
     for _ in 0..ATTEMPTS {
         match hall.ask(rt, pass, request) {
             Ok(_) => return Ok(()),
-            Err(AskError::PassSpent) => return Err(Trouble::Changed),
+            Err(AskError::PassSpent) => return Err(TrialError::Changed),
             Err(AskError::OutOfMemory) => {
                 if hall.poll(pass, Txn(1)) != known {
-                    return Err(Trouble::Changed);
+                    return Err(TrialError::Changed);
                 }
             }
         }
     }
-    Err(Trouble::Memory)
+    Err(TrialError::Memory)
 }

@@ -13,17 +13,17 @@
 #![tactic(auto)]
 
 mod engine_trial;
+mod error;
 mod hall_trial;
 mod lent;
 mod plan;
 mod refusing;
 mod room;
-mod trouble;
 
 use crate::engine_trial::{engine_text, events_of_room};
+use crate::error::TrialError;
 use crate::hall_trial::{HALL_EVENTS, hall_text};
 use crate::plan::EVENTS;
-use crate::trouble::Trouble;
 use std::alloc::Global;
 use std::process::ExitCode;
 use std::sync::Wait;
@@ -37,13 +37,13 @@ fn main(rt: HostRuntime) -> ExitCode {
             Ok(()) => ExitCode::SUCCESS,
             Err(_) => ExitCode::FAILURE,
         },
-        Err(Trouble::Memory) => ExitCode::from(OUT_OF_MEMORY),
-        Err(Trouble::Changed) => ExitCode::FAILURE,
+        Err(TrialError::Memory) => ExitCode::from(OUT_OF_MEMORY),
+        Err(TrialError::Changed) => ExitCode::FAILURE,
     }
 }
 
 /// Returns the text of all trials.
-fn trials(rt: &impl Wait, alloc: Global) -> Result<String, Trouble> {
+fn trials(rt: &impl Wait, alloc: Global) -> Result<String, TrialError> {
     let mut text = engine_text(alloc, 0, None)?;
     text.push_str(&hall_text(rt, alloc, 0, None)?)?;
     let room = events_of_room(alloc)?;
@@ -58,28 +58,28 @@ fn trials(rt: &impl Wait, alloc: Global) -> Result<String, Trouble> {
 
 /// Returns how many engines were refused room, at the first request or when the room for their events is used up. Each must give
 /// the text of an engine that is refused nothing.
-fn same_engines(alloc: Global, room: usize) -> Result<usize, Trouble> {
+fn same_engines(alloc: Global, room: usize) -> Result<usize, TrialError> {
     if engine_text(alloc, 0, Some(0))? != engine_text(alloc, 0, None)? {
-        return Err(Trouble::Changed);
+        return Err(TrialError::Changed);
     }
     for left in 0..=EVENTS {
         let before = room.saturating_sub(left);
         if engine_text(alloc, before, Some(1))? != engine_text(alloc, before, None)? {
-            return Err(Trouble::Changed);
+            return Err(TrialError::Changed);
         }
     }
     Ok(EVENTS + 2)
 }
 
 /// The same for halls.
-fn same_halls(rt: &impl Wait, alloc: Global, room: usize) -> Result<usize, Trouble> {
+fn same_halls(rt: &impl Wait, alloc: Global, room: usize) -> Result<usize, TrialError> {
     if hall_text(rt, alloc, 0, Some(0))? != hall_text(rt, alloc, 0, None)? {
-        return Err(Trouble::Changed);
+        return Err(TrialError::Changed);
     }
     for left in 0..=HALL_EVENTS {
         let before = room.saturating_sub(left);
         if hall_text(rt, alloc, before, Some(1))? != hall_text(rt, alloc, before, None)? {
-            return Err(Trouble::Changed);
+            return Err(TrialError::Changed);
         }
     }
     Ok(HALL_EVENTS + 2)

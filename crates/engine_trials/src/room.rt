@@ -2,9 +2,9 @@
 
 ghost use Rattle.std.specs.Prelude.{OnOk, IsTrue};
 
+use crate::error::TrialError;
 use crate::lent::lent;
 use crate::refusing::Refusing;
-use crate::trouble::Trouble;
 use engine_core::Engine;
 use std::alloc::Global;
 use version_chain::Chains;
@@ -16,7 +16,10 @@ pub const ATTEMPTS: u8 = 3;
 ///
 /// # Errors
 /// `Changed` if a refused call does not. `Memory`: out of memory, or the room is refused at each attempt.
-pub fn make_room<C: Chains>(alloc: Global, engine: &mut Engine<Refusing<C>>) -> Result<(), Trouble>
+pub fn make_room<C: Chains>(
+    alloc: Global,
+    engine: &mut Engine<Refusing<C>>,
+) -> Result<(), TrialError>
     ensures { OnOk result (IsTrue engine.new.ready) }
 {
     if !engine.chains().will_refuse() {
@@ -29,8 +32,8 @@ pub fn make_room<C: Chains>(alloc: Global, engine: &mut Engine<Refusing<C>>) -> 
             return Ok(());
         }
         if lent(alloc, engine)? != before {
-            return Err(Trouble::Changed);
+            return Err(TrialError::Changed);
         }
     }
-    Err(Trouble::Memory)
+    Err(TrialError::Memory)
 }

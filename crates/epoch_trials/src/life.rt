@@ -113,21 +113,33 @@ fn checkpoint<D: Disk>(alloc: Global, journal: &mut EpochJournal<D>, count: u32)
     !journal.is_stopped() && journal.checkpoint(alloc, &rows(count)).is_ok()
 }
 
+/// Opens a disk. Returns the journal, and after how many records its rows are those found: `None` if after no number. Returns the
+/// disk if it is not opened.
+fn opened<D: Disk + Drop>(alloc: Global, disk: D) -> Result<(EpochJournal<D>, Option<u32>), D> {
+    match EpochJournal::open(alloc, disk, &LABEL, &rows(0)) {
+        Ok((journal, found)) => Ok((journal, count_of(&found))),
+        Err(back) => Err(back.disk),
+    }
+}
+
+/// Returns what a life leaves that ends at a call of the disk.
+fn broken<D>(disk: D, acknowledged: u32) -> Lived<D> {
+    Lived {
+        disk,
+        acknowledged,
+        whole: false,
+    }
+}
+
 /// Opens a disk, and takes the steps of a life until a call of the disk fails.
 ///
 /// # Errors
 /// A `Fail`: out of memory for a record.
 pub fn live<D: Disk + Drop>(alloc: Global, disk: D) -> Result<Lived<D>, Fail> {
     let mut acknowledged = 0;
-    let mut journal = match EpochJournal::open(alloc, disk, &LABEL, &rows(0)) {
+    let mut journal = match opened(alloc, disk) {
         Ok((journal, _)) => journal,
-        Err(back) => {
-            return Ok(Lived {
-                disk: back.disk,
-                acknowledged,
-                whole: false,
-            });
-        }
+        Err(disk) => return Ok(broken(disk, acknowledged)),
     };
     for step in LIFE {
         let whole = match step {
@@ -139,26 +151,16 @@ pub fn live<D: Disk + Drop>(alloc: Global, disk: D) -> Result<Lived<D>, Fail> {
                 added
             }
             Step::Checkpoint => checkpoint(alloc, &mut journal, acknowledged),
-            Step::Open => match EpochJournal::open(alloc, journal.into_disk(), &LABEL, &rows(0)) {
-                Ok((opened, found)) => {
-                    journal = opened;
-                    count_of(&found) == Some(acknowledged)
+            Step::Open => match opened(alloc, journal.into_disk()) {
+                Ok((again, found)) => {
+                    journal = again;
+                    found == Some(acknowledged)
                 }
-                Err(back) => {
-                    return Ok(Lived {
-                        disk: back.disk,
-                        acknowledged,
-                        whole: false,
-                    });
-                }
+                Err(disk) => return Ok(broken(disk, acknowledged)),
             },
         };
         if !whole {
-            return Ok(Lived {
-                disk: journal.into_disk(),
-                acknowledged,
-                whole,
-            });
+            return Ok(broken(journal.into_disk(), acknowledged));
         }
     }
     Ok(Lived {
@@ -171,8 +173,8 @@ pub fn live<D: Disk + Drop>(alloc: Global, disk: D) -> Result<Lived<D>, Fail> {
 /// Opens a disk. Returns after how many records its rows are those found, or `None` if it is not opened or they are the rows after
 /// no number.
 pub fn find<D: Disk + Drop>(alloc: Global, disk: D) -> Option<u32> {
-    match EpochJournal::open(alloc, disk, &LABEL, &rows(0)) {
-        Ok((_, found)) => count_of(&found),
+    match opened(alloc, disk) {
+        Ok((_, found)) => found,
         Err(_) => None,
     }
 }

@@ -10,7 +10,7 @@
 //! ```
 //!
 //! **What is proved.** Each call appends the text of its words (`word_text` in `specs/Words.antt`, `line_text` of
-//! `script_text`). [`name_at`] returns the name with a number, or an empty text.
+//! `script_text`). [`name_at`] returns the name with a number, or an empty text. [`control_word`] returns the word of a control.
 //!
 //! **Not claimed**: what is appended once memory runs out. It may be a part of the words.
 #![tactic(auto)]
@@ -18,11 +18,11 @@
 ghost use Rattle.std.specs.Prelude.{◌≡◌, ◌++◌, ◌∷◌, OnOk, codes, map};
 ghost use Rattle.script_text.specs.Texts.{line_text, name_of};
 ghost use Rattle.script_text.specs.Puts.{spaced};
-ghost use Rattle.line_words.specs.Words.{word_text};
+ghost use Rattle.line_words.specs.Words.{control_word, word_text};
 
 use itoa::Buffer;
 use std::alloc::AllocError;
-use teb_rules::names::{Names, Txn};
+use teb_rules::names::{ControlKind, Names, Txn};
 
 /// A word of a line.
 #[derive(Clone, Copy)]
@@ -100,5 +100,17 @@ pub fn name_at(names: &Names, number: u8) -> &str
         names.name(number)
     } else {
         ""
+    }
+}
+
+/// Returns the word of a control: `locks`, `pipeline`, `timestamp` or `snapshot`.
+pub fn control_word(control: ControlKind) -> &'static str
+    ensures { result.now ≡ control_word control }
+{
+    match control {
+        ControlKind::Locks => "locks",
+        ControlKind::Pipeline => "pipeline",
+        ControlKind::Timestamp => "timestamp",
+        ControlKind::Snapshot => "snapshot",
     }
 }

@@ -5,7 +5,7 @@ use Rattle.std.proofs.lemmas.List.{map_more, length-map, length-take-le, flat_ma
 use Rattle.teb_rules.specs.declared.names.Session.{Session}
 use Rattle.teb_rules.specs.declared.names.Request.{Request}
 use Rattle.script_text.specs.declared.Line.{Line}
-use Rattle.shop_load.specs.Loads.{Asking, asked_by, askings_at, numbered, loaded_lines, requests_by, requests_from, report, new_order, payment, delivery, state, next_state, drawn_from}
+use Rattle.shop_load.specs.Loads.{Asking, asked_by, askings_at, numbered, loaded_lines, requests_by, requests_from, report, new_order, payment, delivery, state, next_state, drawn_from, key_from}
 
 numbered_append : (n : ℕ) (xs ys : List Asking) → numbered n (xs ++ ys) ≡ numbered n xs ++ numbered (n + length xs) ys
 numbered_append n [] ys = let e : n + 0 ≡ n = omega arith in rw e refl
@@ -57,7 +57,7 @@ pub few_lines : (n : ℕ) (s : Session) (x i : ℕ) → length (numbered n (aske
 few_lines n s x i =
     let z = numbered_length n (asked_by s (requests_from x i)) in
     let y : length (asked_by s (requests_from x i)) ≡ length (requests_from x i) = length-map (requests_from x i) (λ (r : Request). (s, r)) in
-    let w : length (requests_from x i) ≤ 5 = few_requests (drawn_from x % 4) i (1 + drawn_from (next_state x) % 16) (1 + drawn_from (next_state (next_state x)) % 16) in omega arith
+    let w : length (requests_from x i) ≤ 5 = few_requests (drawn_from x % 4) i (key_from (next_state x)) (key_from (next_state (next_state x))) in omega arith
 
 -- three more draws
 pub state_more : (number i : ℕ) → next_state (next_state (next_state (state number (3 * i)))) ≡ state number (3 * (i + 1))

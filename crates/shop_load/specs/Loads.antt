@@ -49,9 +49,13 @@ delivery a b = begin 3 ∷ Read (orders a) ∷ Read (account b) ∷ Add (account
 abbrev pub requests_by : ℕ → ℕ → ℕ → ℕ → List Request
 requests_by k i a b = if k == 0 then report a b else (if k == 1 then new_order i a b else (if k == 2 then payment a b else delivery a b))
 
--- three draws from the state x say which it is, and its keys, which are 1 to 16
+-- a key that is drawn, 1 to 16
+abbrev pub key_from : ℕ → ℕ
+key_from x = 1 + drawn_from x % 16
+
+-- three draws from the state x say which it is, and its keys
 abbrev pub requests_from : ℕ → ℕ → List Request
-requests_from x i = let y = next_state x in requests_by (drawn_from x % 4) i (1 + drawn_from y % 16) (1 + drawn_from (next_state y) % 16)
+requests_from x i = let y = next_state x in requests_by (drawn_from x % 4) i (key_from y) (key_from (next_state y))
 
 -- a line without its number
 abbrev pub Asking : Type 0
@@ -60,9 +64,12 @@ Asking = Session × Request
 abbrev pub asked_by : Session → List Request → List Asking
 asked_by s rs = map (λ r. (s, r)) rs
 
--- transaction i is of session 1 + i mod 8
+-- the session of transaction i, 1 to 8
+abbrev pub session_of : ℕ → Session
+session_of i = record { 0 = 1 + i % 8 }
+
 abbrev pub askings_at : ℕ → ℕ → List Asking
-askings_at number i = asked_by (record { 0 = 1 + i % 8 }) (requests_from (state number (3 * i)) i)
+askings_at number i = asked_by (session_of i) (requests_from (state number (3 * i)) i)
 
 -- the lines of all sessions, numbered from n on
 abbrev pub numbered : ℕ → List Asking → List Line

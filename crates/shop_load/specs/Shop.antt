@@ -27,8 +27,8 @@ filled table value last = map (λ key. (record { table = record { 0 = table }; k
 abbrev pub shop_rows : List (Cell × ℤ)
 shop_rows = filled 0 (pos 100) 16 ++ filled 1 (pos 0) 16 ++ filled 2 (pos 1000) 16
 
--- a report goes through no steps; a new order from the stock to the orders, a payment from an account to the orders,
--- and a delivery from the orders to an account
+-- a report has one step, which uses all tables; a new order goes from the stock to the orders, a payment from an account to the
+-- orders, and a delivery from the orders to an account
 abbrev pub shop_profiles : List (List (List ℕ))
 shop_profiles = ((0 ∷ 1 ∷ 2 ∷ []) ∷ []) ∷ ((0 ∷ []) ∷ (1 ∷ []) ∷ []) ∷ ((2 ∷ []) ∷ (1 ∷ []) ∷ []) ∷ ((1 ∷ []) ∷ (2 ∷ []) ∷ []) ∷ []
 

@@ -31,6 +31,6 @@ mod load;
 mod shop;
 mod summary;
 
-pub use lines::loaded_lines;
+pub use lines::{MOST_SIZE, loaded_lines};
 pub use load::{load_input, run_load};
 pub use shop::shop_setup;

@@ -1,7 +1,8 @@
 //! The generated load: transactions of a shop, from a seed.
 
-ghost use Rattle.std.specs.Prelude.{◌≡◌, ◌+◌, ◌/◌, ◌%◌, ◌^◌, ◌<◌, ◌≤◌, ◌++◌, length, IfOk, OnOk, vec_len};
-ghost use Rattle.shop_load.specs.Loads.{next_state, begin, report, new_order, payment, delivery, requests_from, asked_by, numbered, loaded_lines};
+ghost use Rattle.std.specs.Prelude.{◌≡◌, ◌+◌, ◌*◌, ◌^◌, ◌<◌, ◌≤◌, ◌++◌, length, IfOk, OnOk, vec_len};
+ghost use Rattle.shop_load.specs.declared.lines.TheConstants.{MOST_LINES, MOST_SIZE};
+ghost use Rattle.shop_load.specs.Loads.{next_state, drawn_from, key_from, session_of, begin, report, new_order, payment, delivery, requests_from, asked_by, numbered, loaded_lines};
 
 use crate::shop::{ACCOUNTS, KEYS, ORDERS, STOCK};
 use script_text::Line;
@@ -19,8 +20,21 @@ const DELIVERY: Kind = Kind(3);
 /// The sessions, which take the transactions in turn.
 const SESSIONS: u32 = 8;
 
+/// The most transactions of a load.
+pub const MOST_SIZE: u32 = 2_000;
+
 /// The most lines of one transaction. Room is made at once for this number of lines for each.
 const MOST_LINES: usize = 5;
+
+/// The next state is `(MULTIPLIER * state + INCREMENT) % MODULUS`.
+const MULTIPLIER: u64 = 1_103_515_245;
+
+const INCREMENT: u64 = 12_345;
+
+const MODULUS: u64 = 1 << 31;
+
+/// A draw is the state divided by this number: the upper 15 bits of 31.
+const DRAW_DIVISOR: u32 = 1 << 16;
 
 /// Returns the lines of `size` transactions of eight sessions, generated from a seed: reports, new orders, payments and
 /// deliveries on the tables stock 0, orders 1 and accounts 2, keys 1 to 16. The lines are numbered from 1.
@@ -29,7 +43,7 @@ const MOST_LINES: usize = 5;
 /// `AllocError`: out of memory.
 pub fn loaded_lines(alloc: Global, number: u32, size: u32) -> Result<Vec<Line>, AllocError>
     requires number { number < 2 ^ 31 }
-    requires size { size ≤ 2000 }
+    requires size { size ≤ MOST_SIZE }
     ensures { IfOk result (λ v. v.items ≡ loaded_lines number size) }
 {
     let mut lines = Vec::with_capacity(alloc, MOST_LINES * size as usize)?;
@@ -51,17 +65,17 @@ impl Draws {
     /// Returns the next number, 0 to 32,767.
     fn draw(&mut self) -> u32
         ensures state { self.new.state ≡ next_state self.old.state }
-        ensures drawn { result ≡ next_state self.old.state / 65536 }
+        ensures drawn { result ≡ drawn_from self.old.state }
     {
-        let next = (1103515245 * u64::from(self.state) + 12345) % (1 << 31);
+        let next = (MULTIPLIER * u64::from(self.state) + INCREMENT) % MODULUS;
         self.state = next as u32;
-        self.state / 65536
+        self.state / DRAW_DIVISOR
     }
 
     /// Returns a key, 1 to 16.
     fn key(&mut self) -> u32
         ensures state { self.new.state ≡ next_state self.old.state }
-        ensures drawn { result ≡ 1 + next_state self.old.state / 65536 % 16 }
+        ensures drawn { result ≡ key_from self.old.state }
     {
         1 + self.draw() % KEYS
     }
@@ -69,11 +83,11 @@ impl Draws {
 
 /// Adds the lines of transaction i.
 fn add_transaction(lines: &mut Vec<Line>, draws: &mut Draws, i: u32) -> Result<(), AllocError>
-    requires few { i < 2000 }
-    requires room { vec_len lines.old ≤ 10000 }
+    requires few { i < MOST_SIZE }
+    requires room { vec_len lines.old ≤ MOST_LINES * MOST_SIZE }
     ensures state { draws.new.state ≡ next_state (next_state (next_state draws.old.state)) }
     ensures lines { OnOk result (lines.new.items ≡ lines.old.items
-        ++ numbered (vec_len lines.old + 1) (asked_by (record { 0 = 1 + i % 8 }) (requests_from draws.old.state i))) }
+        ++ numbered (vec_len lines.old + 1) (asked_by (session_of i) (requests_from draws.old.state i))) }
 {
     let kind = draws.draw() % 4;
     let a = draws.key();

@@ -3,6 +3,7 @@
 ghost use Rattle.std.specs.Prelude.{◌≡◌, ◌<◌, ◌≤◌, ◌^◌, IfOk};
 ghost use Rattle.script_runner.specs.Runs.{IsSerialized};
 ghost use Rattle.shop_load.specs.Loads.{loaded_lines};
+ghost use Rattle.shop_load.specs.declared.lines.TheConstants.{MOST_SIZE};
 ghost use Rattle.shop_load.specs.Runs.{IsLoad};
 ghost use Rattle.shop_load.specs.Shop.{shop as spec_shop};
 
@@ -21,7 +22,7 @@ use std::alloc::{AllocError, Global};
 /// `AllocError`: out of memory.
 pub fn run_load(alloc: Global, number: u32, size: u32) -> Result<Output, AllocError>
     requires number { number < 2 ^ 31 }
-    requires size { size ≤ 2000 }
+    requires size { size ≤ MOST_SIZE }
     ensures shown { IfOk result (IsLoad number size) }
     ensures serialized { IfOk result (λ o. IsSerialized (λ m. spec_shop ≡ m) o.history) }
 {
@@ -38,7 +39,7 @@ pub fn run_load(alloc: Global, number: u32, size: u32) -> Result<Output, AllocEr
 #[tactic(auto, using(crate::proofs::LoadedSessions::loaded_sessions))]
 pub fn load_input(alloc: Global, number: u32, size: u32) -> Result<Input, AllocError>
     requires number { number < 2 ^ 31 }
-    requires size { size ≤ 2000 }
+    requires size { size ≤ MOST_SIZE }
     ensures { IfOk result (λ i. i ≡ record { setup = spec_shop; lines = loaded_lines number size }) }
 {
     let lines = loaded_lines(alloc, number, size)?;

@@ -1,20 +1,13 @@
 -- A tree drawn as text: a line for each node, below its parent, behind lines and corners.
 use Rattle.std.specs.Prelude.{◌≡◌, ℕ, zero, suc, Bool, true, false, if◌then◌else◌, ◌&&◌, ◌||◌, ◌==◌, not, List, [], ◌∷◌, ◌++◌, length, map, codes, decimal}
 use Rattle.std.specs.List.{flat_map}
-use Rattle.teb_rules.specs.declared.names.ControlKind.{ControlKind}
-use Rattle.teb_rules.specs.declared.names.ControlKind.TheVariants.{Locks, Pipeline, Timestamp, Snapshot}
 use Rattle.teb_rules.specs.declared.names.naming.NameBook.{NameBook}
 use Rattle.teb_rules.specs.Accepted.{is_child_of}
 use Rattle.teb_rules.specs.Setup.{NodeRow}
 use Rattle.teb_rules.specs.Tree.{below, is_snapshot, is_timestamp, row}
 use Rattle.script_text.specs.Texts.{Words, line_text, name_of}
+use Rattle.line_words.specs.Words.{control_word}
 use Rattle.tree_report.specs.declared.drawing.TheConstants.{BRANCH, CORNER, LINE, SPACE, MOST_LEVELS}
-
-abbrev pub control_word : ControlKind → List ℕ
-control_word Locks = codes "locks"
-control_word Pipeline = codes "pipeline"
-control_word Timestamp = codes "timestamp"
-control_word Snapshot = codes "snapshot"
 
 -- the size of its batches, above the leaves of a node that has batches
 abbrev pub has_batch : NodeRow → Bool

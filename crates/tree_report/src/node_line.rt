@@ -4,9 +4,9 @@ ghost use Rattle.std.specs.Prelude.{◌≡◌, ◌++◌, ◌<◌, OnOk, length, 
 ghost use Rattle.store_setup.specs.tree.Grown.{kind_numbers, row_of};
 ghost use Rattle.script_text.specs.Puts.{spaced};
 ghost use Rattle.script_text.specs.Texts.{name_of};
-ghost use Rattle.tree_report.specs.Drawing.{batch_words, control_word, has_batch, node_line, order_words, parameter_words, part_words, type_words};
+ghost use Rattle.tree_report.specs.Drawing.{batch_words, has_batch, node_line, order_words, parameter_words, part_words, type_words};
 
-use line_words::{Word, name_at, put_next, put_spaced};
+use line_words::{Word, control_word, name_at, put_next, put_spaced};
 use std::alloc::AllocError;
 use store_setup::tree::{NodeRow, Tree};
 use teb_rules::names::{ControlKind, Kind, NameBook, Names, Node};
@@ -109,15 +109,4 @@ fn put_names(out: &mut Vec<u8>, names: &Names, types: &[Kind]) -> Result<(), All
         put_next(out, &Word::Text(name_at(names, kind.0)))?;
     }
     Ok(())
-}
-
-fn control_word(control: ControlKind) -> &'static str
-    ensures { result.now ≡ control_word control }
-{
-    match control {
-        ControlKind::Locks => "locks",
-        ControlKind::Pipeline => "pipeline",
-        ControlKind::Timestamp => "timestamp",
-        ControlKind::Snapshot => "snapshot",
-    }
 }

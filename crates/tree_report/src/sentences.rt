@@ -23,6 +23,14 @@ const ORDERED: &str = "the serial order is the order of the commits";
 
 const ALONE: &str = "an abort takes no other transaction with it";
 
+/// Which of the sentences that depend on the shape of a tree hold.
+#[derive(Clone, Copy)]
+struct Shape {
+    strict: bool,
+    ordered: bool,
+    alone: bool,
+}
+
 /// Writes what a tree guarantees, and what it does not, into an empty text: the sentences that hold for every tree, those that
 /// depend on its shape, one for each type, and the end.
 ///
@@ -35,9 +43,11 @@ pub fn put_guarantees(out: &mut Vec<u8>, types: &Names, tree: &Tree) -> Result<(
     put_always(out)?;
     put_shape(
         out,
-        is_strict(tree),
-        commits_in_order(tree),
-        has_no_cascades(tree),
+        Shape {
+            strict: is_strict(tree),
+            ordered: commits_in_order(tree),
+            alone: has_no_cascades(tree),
+        },
     )?;
     put_types(out, types, tree)?;
     put_line(out, &Word::Text("end"), &[])
@@ -51,12 +61,12 @@ fn put_always(out: &mut Vec<u8>) -> Result<(), AllocError>
 }
 
 /// Appends the sentences that depend on the shape of the tree.
-fn put_shape(out: &mut Vec<u8>, strict: bool, ordered: bool, alone: bool) -> Result<(), AllocError>
-    ensures { OnOk result (out.new.items ≡ out.old.items ++ shape_text strict ordered alone) }
+fn put_shape(out: &mut Vec<u8>, shape: Shape) -> Result<(), AllocError>
+    ensures { OnOk result (out.new.items ≡ out.old.items ++ shape_text shape.strict shape.ordered shape.alone) }
 {
-    put_sentence(out, strict, STRICT)?;
-    put_sentence(out, ordered, ORDERED)?;
-    put_sentence(out, alone, ALONE)
+    put_sentence(out, shape.strict, STRICT)?;
+    put_sentence(out, shape.ordered, ORDERED)?;
+    put_sentence(out, shape.alone, ALONE)
 }
 
 fn put_sentence(out: &mut Vec<u8>, holds: bool, sentence: &str) -> Result<(), AllocError>

@@ -4,10 +4,10 @@ use Rattle.std.specs.List.{flat_map}
 use Rattle.std.specs.Fmt.{signed_decimal}
 use Rattle.teb_rules.specs.declared.names.Cell.{Cell}
 use Rattle.teb_rules.specs.declared.names.ControlKind.{ControlKind}
-use Rattle.teb_rules.specs.declared.names.ControlKind.TheVariants.{Locks, Pipeline, Timestamp, Snapshot}
 use Rattle.teb_rules.specs.Setup.{NodeRow}
 use Rattle.teb_rules.specs.Tree.{below, is_snapshot, is_timestamp, row}
 use Rattle.script_text.specs.Texts.{Words, name_of}
+use Rattle.line_words.specs.Words.{control_word}
 use Rattle.teb_rules.specs.declared.names.naming.NameBook.{NameBook}
 
 -- a line with a key and its value
@@ -58,12 +58,6 @@ row_item tables r = table_field (name_of tables r.0.table.0) ++ key_field r.0.ke
 abbrev pub rows_setting : Words → List (Cell × ℤ) → List ℕ
 rows_setting tables [] = []
 rows_setting tables (r ∷ rs) = codes "row = [\n" ++ flat_map (row_item tables) (r ∷ rs) ++ codes "]\n"
-
-abbrev pub control_word : ControlKind → List ℕ
-control_word Locks = codes "locks"
-control_word Pipeline = codes "pipeline"
-control_word Timestamp = codes "timestamp"
-control_word Snapshot = codes "snapshot"
 
 abbrev pub parent_setting : Words → Option ℕ → List ℕ
 parent_setting nodes None = []

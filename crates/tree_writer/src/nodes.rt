@@ -4,10 +4,11 @@ ghost use Rattle.std.specs.Prelude.{◌≡◌, ◌++◌, ◌<◌, OnOk, length};
 ghost use Rattle.std.specs.List.{flat_map};
 ghost use Rattle.store_setup.specs.tree.Grown.{parent_number, row_of};
 ghost use Rattle.teb_rules.specs.Tree.{below};
-ghost use Rattle.tree_writer.specs.Written.{batch_setting, control_word, has_batches, node_settings, node_text, order_setting, parameter_settings, parent_setting, part_settings};
+ghost use Rattle.tree_writer.specs.Written.{batch_setting, has_batches, node_settings, node_text, order_setting, parameter_settings, parent_setting, part_settings};
 
 use crate::arrays::put_members;
 use crate::settings::{put_header, put_name, put_number, put_text};
+use line_words::control_word;
 use std::alloc::AllocError;
 use store_setup::tree::{NodeRow, Tree};
 use teb_rules::names::{ControlKind, NameBook, Names, Node};
@@ -95,16 +96,5 @@ fn has_batches(control: ControlKind) -> bool
     match control {
         ControlKind::Timestamp | ControlKind::Snapshot => true,
         ControlKind::Locks | ControlKind::Pipeline => false,
-    }
-}
-
-fn control_word(control: ControlKind) -> &'static str
-    ensures { result.now ≡ control_word control }
-{
-    match control {
-        ControlKind::Locks => "locks",
-        ControlKind::Pipeline => "pipeline",
-        ControlKind::Timestamp => "timestamp",
-        ControlKind::Snapshot => "snapshot",
     }
 }

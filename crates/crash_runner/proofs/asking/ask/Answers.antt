@@ -6,7 +6,7 @@ use Rattle.commit_journal.specs.Kept.{Kept}
 use Rattle.crash_runner.specs.Underway.{IsUnderway, effects, weight}
 use Rattle.crash_runner.proofs.Effects.{adds_few}
 use Rattle.crash_runner.proofs.Along.{asked_one, light}
-use Rattle.crash_runner.proofs.Halting.{as_error, fault_or_not, of_halt}
+use Rattle.crash_runner.proofs.Errors.{as_error, fault_or_not, of_run_error}
 use Rattle.crash_runner.proofs.Steps.{goes_on, stops_here, never_full}
 use Rattle.crash_runner.proofs.asking.ask.Goals as goal
 
@@ -38,11 +38,11 @@ returns-in_ok-push-in-Ok-clause-one g c =
     let added : effects c.ask.new.self.events ≤ weight c.args.request + effects c.args.durable.now.events = returns-in_ok-push-in-Ok-clause-few g c in
     omega (arith, added, light c.args.request)
 
-pub halt_of-requires-clause-running : goal.halt_of-requires-clause-running
-halt_of-requires-clause-running g c is = absurd (both_ways _ c.requires.underway.runs (c.in-Err.ensures.refuses.stopped (as_error c.in-Err.error _ is)))
+pub error_of-requires-clause-running : goal.error_of-requires-clause-running
+error_of-requires-clause-running g c is = absurd (both_ways _ c.requires.underway.runs (c.in-Err.ensures.refuses.stopped (as_error c.in-Err.error _ is)))
 
-pub halt_of-requires-clause-room : goal.halt_of-requires-clause-room
-halt_of-requires-clause-room g c is =
+pub error_of-requires-clause-room : goal.error_of-requires-clause-room
+error_of-requires-clause-room g c is =
     let d = g.D.Disk in
     let old = c.args.durable.now in
     never_full d.tally d.safe d.may_leave g.met.D.Disk.safe_is_left (d.tally old.disk).promise old c.args.log.now.items c.args.session c.args.request c.requires.underway c.requires.few
@@ -52,17 +52,17 @@ pub returns-in-Err-clause-stopped : goal.returns-in-Err-clause-stopped
 returns-in-Err-clause-stopped g c rest is =
     let d = g.D.Disk in
     let old = c.args.durable.now in
-    let fault = as_error c.in-Err.error _ (c.halt_of.ensures.0 (of_halt c.halt_of.result _ is)) in
+    let fault = as_error c.in-Err.error _ (c.error_of.ensures.0 (of_run_error c.error_of.result _ is)) in
     stops_here d.tally d.safe d.may_leave g.met.D.Disk.safe_is_left (d.tally old.disk).promise old c.ask.new.self c.args.log.now.items c.args.session c.args.request c.requires.underway c.requires.few
     c.in-Err.ensures.store rest
     (c.in-Err.ensures.fault fault).commits (c.in-Err.ensures.fault fault).not_added c.in-Err.ensures.calls.up_to (λ t asked sure. c.in-Err.ensures.calls.sure t asked sure fault)
 
-pub returns-in-Err-clause-halts : goal.returns-in-Err-clause-halts
-returns-in-Err-clause-halts g c =
+pub returns-in-Err-clause-error : goal.returns-in-Err-clause-error
+returns-in-Err-clause-error g c =
     let e = c.in-Err.ensures in (
-      λ is. (e.fault (as_error c.in-Err.error _ (c.halt_of.ensures.0 is))).stopped,
+      λ is. (e.fault (as_error c.in-Err.error _ (c.error_of.ensures.0 is))).stopped,
       λ stopped. elim (fault_or_not c.in-Err.error) [
-        | inl fault ↦ c.halt_of.ensures.1 fault
+        | inl fault ↦ c.error_of.ensures.1 fault
         | inr other ↦ absurd (both_ways _ c.requires.underway.runs (sym (ap (λ (k : Kept _). k.stopped) (e.not_asked other)) ∙ stopped))
       ],
     )

@@ -3,11 +3,11 @@ use Rattle.std.specs.Prelude.{◌↔◌, true}
 use Rattle.std.proofs.lemmas.Result.{err_from_is_err_and}
 use Rattle.crash_disk.specs.Calls.{Promise}
 use Rattle.script_runner.specs.replay.Holders.{end_of}
-use Rattle.crash_runner.specs.declared.halt.Halt.{Halt}
-use Rattle.crash_runner.specs.declared.halt.Halt.TheVariants as halts
+use Rattle.crash_runner.specs.declared.error.RunError.{RunError}
+use Rattle.crash_runner.specs.declared.error.RunError.TheVariants as run_error
 use Rattle.crash_runner.specs.Underway.{IsUnderway, effects}
 use Rattle.crash_runner.proofs.Along.{asked_none, one_more, stopped_at}
-use Rattle.crash_runner.proofs.Halting.{as_halt, halted, of_halt}
+use Rattle.crash_runner.proofs.Errors.{as_run_error, passed_on, of_run_error}
 use Rattle.crash_runner.proofs.ends.ask_ends.Goals as goal
 
 pub loop-session-init : goal.loop-session-init
@@ -26,10 +26,10 @@ returns-in_err-ask-clause-stopped g c rest is =
     let i = l.invariant in
     let old = c.args.durable.now in
     let p = err_from_is_err_and c.from_residual.result c.from_residual.ensures.1 in
-    let stopped = of_halt p.0 _ (sym p.1 ∙ is) in
+    let stopped = of_run_error p.0 _ (sym p.1 ∙ is) in
     stopped_at end_of c.args.holders.now l.session-index _ c.loop-session-test.true _ refl old.store l.durable.store i.store.store c.args.log.now.items l.log.items old.events l.durable.events i.asked
     (d.tally old.disk).promise (d.tally l.durable.disk).promise rest c.ask.new.log.items (d.tally c.ask.new.durable.disk) (d.safe c.ask.new.durable.disk) i.underway.promised
-    (c.in_err-ask.ensures.stopped (map end_of (drop (l.session-index + 1) c.args.holders.now) ++ rest) (as_halt c.in_err-ask.field-0.0 _ (sym p.2 ∙ stopped)))
+    (c.in_err-ask.ensures.stopped (map end_of (drop (l.session-index + 1) c.args.holders.now) ++ rest) (as_run_error c.in_err-ask.field-0.0 _ (sym p.2 ∙ stopped)))
 
 pub loop-session-preserved : goal.loop-session-preserved
 loop-session-preserved g c =
@@ -48,7 +48,7 @@ loop-session-preserved g c =
       few = omega (arith, none, i.few);
     }
 
-pub returns-in_err-ask-clause-halts : goal.returns-in_err-ask-clause-halts
-returns-in_err-ask-clause-halts g c =
+pub returns-in_err-ask-clause-error : goal.returns-in_err-ask-clause-error
+returns-in_err-ask-clause-error g c =
     let p = err_from_is_err_and c.from_residual.result c.from_residual.ensures.1 in
-    halted c.from_residual.result p.0 c.in_err-ask.field-0.0 (λ (h : Halt). (h ≡ halts.Stopped) ↔ (c.ask.new.durable.stopped ≡ true)) p.1 p.2 c.in_err-ask.ensures.halts
+    passed_on c.from_residual.result p.0 c.in_err-ask.field-0.0 (λ (h : RunError). (h ≡ run_error.DiskFault) ↔ (c.ask.new.durable.stopped ≡ true)) p.1 p.2 c.in_err-ask.ensures.error

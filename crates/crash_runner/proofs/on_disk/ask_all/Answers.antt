@@ -10,7 +10,7 @@ use Rattle.script_runner.specs.replay.Logs.{Requests, log_of, requests_of}
 use Rattle.script_runner.proofs.lemmas.replay.Holders.{ends_of_holders}
 use Rattle.crash_runner.specs.Underway.{HasAsked, StopsAt}
 use Rattle.crash_runner.proofs.Along.{whole_asked, whole_stops}
-use Rattle.crash_runner.proofs.Halting.{on_ok}
+use Rattle.crash_runner.proofs.Errors.{on_ok}
 use Rattle.crash_runner.proofs.Steps.{effects_none}
 use Rattle.crash_runner.proofs.on_disk.ask_all.Goals as goal
 

@@ -6,7 +6,7 @@ use Rattle.store_setup.specs.SetupView.{setup_view}
 use Rattle.store_setup.specs.Stores.{store_of_view}
 use Rattle.crash_runner.specs.Underway.{IsRunOn}
 use Rattle.crash_runner.proofs.Courses.{never_began}
-use Rattle.crash_runner.proofs.Halting.{as_create_error, not_ok_and_err, not_err_and_ok}
+use Rattle.crash_runner.proofs.Errors.{as_create_error, not_ok_and_err, not_err_and_ok}
 use Rattle.crash_runner.proofs.Memory.{tally_of, safe_of, MayBeLeft, is_left, roomy, unwritten, nothing_safe, sound_of}
 use Rattle.crash_runner.proofs.Steps.{begins, stop_early, room_kept, nothing_recovered}
 use Rattle.crash_runner.proofs.on_disk.replay_on_disk.Goals as goal

@@ -1,7 +1,7 @@
-use Rattle.std.proofs.Common.{◌≡◌, ℕ, ◌+◌, ◌%◌, List, ◌++◌, length, vec_len, sym, ◌∙◌, ap, ap₂, arith, length-append}
+use Rattle.std.proofs.Common.{◌≡◌, ℕ, ◌+◌, List, ◌++◌, length, vec_len, sym, ◌∙◌, ap, ap₂, arith, length-append}
 use Rattle.teb_rules.specs.declared.names.Session.{Session}
 use Rattle.script_text.specs.declared.Line.{Line}
-use Rattle.shop_load.specs.Loads.{asked_by, loaded_lines, next_state, numbered, requests_from}
+use Rattle.shop_load.specs.Loads.{asked_by, loaded_lines, next_state, numbered, requests_from, session_of}
 use Rattle.shop_load.proofs.Loading.{loaded_more, loaded_none, state_more, state_none, few_lines}
 use Rattle.shop_load.proofs.lines.loaded_lines.Goals as goal
 
@@ -16,7 +16,7 @@ pub loop-i-preserved : goal.loop-i-preserved
 loop-i-preserved c =
     let number = c.args.number in
     let i = c.loop-i.i in
-    let s : Session = record { 0 = 1 + i % 8 } in
+    let s : Session = session_of i in
     let x = c.loop-i.draws.state in
     let old = c.loop-i.lines in
     let so_far = c.loop-i.invariant.lines in

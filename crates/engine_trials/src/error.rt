@@ -4,15 +4,15 @@ use std::alloc::AllocError;
 
 /// Why a trial failed.
 #[derive(Drop)]
-pub enum Trouble {
+pub enum TrialError {
     /// Out of memory.
     Memory,
     /// Something has changed that a refusal must leave.
     Changed,
 }
 
-impl From<AllocError> for Trouble {
-    fn from(_error: AllocError) -> Trouble {
-        Trouble::Memory
+impl From<AllocError> for TrialError {
+    fn from(_error: AllocError) -> TrialError {
+        TrialError::Memory
     }
 }

@@ -5,16 +5,16 @@ use Rattle.commit_journal.specs.declared.error.CreateError.{CreateError}
 use Rattle.commit_journal.specs.declared.error.DurableError.{DurableError}
 use Rattle.commit_journal.specs.declared.error.DurableError.TheVariants as errors
 use Rattle.record_journal.proofs.Counting.{never_fails}
-use Rattle.crash_runner.specs.declared.halt.Halt.{Halt}
+use Rattle.crash_runner.specs.declared.error.RunError.{RunError}
 
 pub as_error : {T : Type 0} (e x : DurableError) → e ≡ x → IsErrOf {T = T} (Err e) x
 as_error e x is = cc is
 
-pub as_halt : {T : Type 0} (h x : Halt) → h ≡ x → IsErrOf {T = T} (Err h) x
-as_halt h x is = cc is
+pub as_run_error : {T : Type 0} (h x : RunError) → h ≡ x → IsErrOf {T = T} (Err h) x
+as_run_error h x is = cc is
 
-pub of_halt : {T : Type 0} (h x : Halt) → IsErrOf {T = T} (Err h) x → h ≡ x
-of_halt h x is = cc is
+pub of_run_error : {T : Type 0} (h x : RunError) → IsErrOf {T = T} (Err h) x → h ≡ x
+of_run_error h x is = cc is
 
 pub on_ok : {T E P Q : Type 0} (r : Result T E) → (P → Q) → OnOk r P → OnOk r Q
 on_ok (Ok v) f p = f p
@@ -30,8 +30,8 @@ pub not_err_and_ok : {T E : Type 0} (r : Result T E) (e : E) → r ≡ Err e →
 not_err_and_ok {T = T} {E = E} r e is f = never_fails r f (subst (λ (q : Result T E). IsErr q) (sym is) refl)
 
 -- a property of an error holds for the error that is passed on
-pub halted : {T : Type 0} (r : Result T Halt) (h k : Halt) (P : Halt → Type 0) → r ≡ Err h → h ≡ k → P k → IfErr r P
-halted {T = T} r h k P is same p = subst (λ (q : Result T Halt). IfErr q P) (sym is) (subst P (sym same) p)
+pub passed_on : {T : Type 0} (r : Result T RunError) (h k : RunError) (P : RunError → Type 0) → r ≡ Err h → h ≡ k → P k → IfErr r P
+passed_on {T = T} r h k P is same p = subst (λ (q : Result T RunError). IfErr q P) (sym is) (subst P (sym same) p)
 
 pub fault_or_not : (e : DurableError) → (e ≡ errors.DiskFault) ⊎ (e ≡ errors.DiskFault → ⊥)
 fault_or_not errors.Stopped = inr (λ p. absurd (cc))
