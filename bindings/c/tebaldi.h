@@ -10,11 +10,17 @@
  * 3. A `struct tebaldi_store` begins as TEBALDI_CLOSED. Only these functions read and write its fields. It may be moved in memory between
  *    calls. Of two copies of an open store, use one and forget the other. A `struct tebaldi_file` likewise: it begins as TEBALDI_FILE_CLOSED,
  *    or as zeros, which mean the same.
- * 4. One call at a time uses a store. It may go to another thread if a lock, a thread's start or a join orders the calls.
+ * 4. One call at a time uses a store, also one that only reads: so no pointer to a store is `const`. It may go to another thread if a lock, a
+ *    thread's start or a join orders the calls.
  * 5. A `struct tebaldi_reply` that is passed in is zeros, or what a call has written. A `struct tebaldi_event` likewise.
- * 6. No function is called from a signal handler, or in the forked child of a process with threads.
+ * 6. No function is called from a signal handler, or in the forked child of a process with threads. After a fork one of the two processes
+ *    uses an open store, and the other one forgets it, by rule 3: two that go on with a file spoil it. A file stays locked as long as one of
+ *    them has its descriptor `fd`. So a child that forgets a store closes this descriptor, sets the struct to TEBALDI_FILE_CLOSED, and calls
+ *    no function for it. A child that runs another program has no descriptor of it.
  * 7. malloc, realloc and free come from one allocator, with blocks as the C standard describes them. A program that defines rattle_alloc,
- *    rattle_realloc and rattle_dealloc of heap.c itself uses its own allocator.
+ *    rattle_realloc and rattle_dealloc of heap.c itself uses its own allocator; tebaldi_file.c calls malloc nevertheless.
+ *
+ * In C++ the structs tebaldi_version, tebaldi_event and tebaldi_file_state are named with `struct`, since functions have these names too.
  */
 #ifndef TEBALDI_H
 #define TEBALDI_H
@@ -27,11 +33,12 @@
 extern "C" {
 #endif
 
-/* The status that a call returns. If it is neither TEBALDI_OK nor TEBALDI_UNSURE, the store is unchanged. If it is not TEBALDI_OK, so is
- * everything that the call may write, except the line of a tree's fault (TEBALDI_BAD_TREE), the wrong line of a printed run
+/* The status that a call returns. If it is neither TEBALDI_OK nor TEBALDI_UNSURE, the store is unchanged. If it is not TEBALDI_OK,
+ * so is everything that the call may write, except the line of a tree's fault (TEBALDI_BAD_TREE), the wrong line of a printed run
  * (TEBALDI_BAD_RUN), who hinders the next epoch (TEBALDI_UNFINISHED, TEBALDI_UNTOLD), and where a file is damaged (TEBALDI_DAMAGED).
  * At TEBALDI_UNSURE the store has the commit, or the new epoch, and the file may have it or not. After TEBALDI_UNSURE and
- * TEBALDI_STOPPED the store is stopped. */
+ * TEBALDI_STOPPED the store is stopped: its rows, order and events can be read, and after TEBALDI_UNSURE they have the commit. Close it, and
+ * open the file anew: it has each commit that was told, and says whether it has this one. */
 enum {
     TEBALDI_OK = 0,
     TEBALDI_NOT_OPEN = 1,      /* the store is not open */
@@ -42,14 +49,14 @@ enum {
     TEBALDI_OUT_OF_MEMORY = 6,
     TEBALDI_BAD_RUN = 7,       /* the printed run has a wrong line */
     TEBALDI_TOO_LONG = 8,      /* the text has 2^32 - 1 bytes or more, or the file more than TEBALDI_FILE_CAPACITY */
-    TEBALDI_OTHER_TABLES = 9,  /* the tables of the tree are not those of the store */
+    TEBALDI_OTHER_TABLES = 9,  /* the tables of the tree are not those of the store, with their names and in their order */
     TEBALDI_UNFINISHED = 10,   /* a transaction is unfinished */
     TEBALDI_UNTOLD = 11,       /* a session was not told that its transaction was aborted: it asks once more */
 
     /* Of a store in a file. */
     TEBALDI_STOPPED = 12,        /* a call on the file has failed: nothing is answered; open the file anew */
-    TEBALDI_UNSURE = 13,         /* the file may have this commit, or this epoch, or not; the store is stopped */
-    TEBALDI_NO_ROOM = 14,        /* the commit or the rows do not fit the file: begin the next epoch */
+    TEBALDI_UNSURE = 13,         /* of tebaldi_file_*: the file may have this commit, or this epoch, or not; the store is stopped */
+    TEBALDI_NO_ROOM = 14,        /* a commit does not fit what is left of its epoch: begin the next one; or the rows do not fit the file */
     TEBALDI_WAITING = 15,        /* calls on the file wait to be performed */
     TEBALDI_DAMAGED = 16,        /* the file is no store, or a damaged one */
     TEBALDI_OTHER_CAPACITY = 17, /* the file has a store of another capacity */
@@ -223,7 +230,7 @@ uint32_t tebaldi_next_epoch(struct tebaldi_store *store, const uint8_t *tree, si
 void tebaldi_close(struct tebaldi_store *store);
 
 /* Answers a request of a session, 1 to 32. TEBALDI_NOT_OPEN, TEBALDI_BAD_VERB, TEBALDI_OUT_OF_MEMORY. Of a store of tebaldi_open_image also
- * TEBALDI_WAITING, TEBALDI_STOPPED, TEBALDI_NO_ROOM and TEBALDI_UNSURE. */
+ * TEBALDI_WAITING, TEBALDI_STOPPED and TEBALDI_NO_ROOM; a commit that is answered is then to be told only once no call waits. */
 uint32_t tebaldi_ask(struct tebaldi_store *store, uint8_t session, const struct tebaldi_request *request, struct tebaldi_reply *reply);
 
 /* Finds the number of a name in a list: TEBALDI_TABLES, TEBALDI_TYPES or TEBALDI_NODES. A list of any other number is that of the nodes.
@@ -266,7 +273,15 @@ uint32_t tebaldi_audit(const uint8_t *text, size_t text_len, uint32_t *line, uin
  * `kept` ones of struct tebaldi_file_state.
  *
  * The functions tebaldi_file_* do that: a commit is in the file before it is told. Most programs call only these, and for all that reads
- * (numbers, names, lines, order, rows, events) the functions above with `&file.store`. */
+ * (numbers, names, lines, order, rows, events) the functions above with `&file.store`. No program calls tebaldi_ask, tebaldi_next_epoch or
+ * tebaldi_close with `&file.store`: they do not reach the file.
+ *
+ * The file is a regular one on a local file system. Its lock keeps out the programs that ask for it (by flock), and on a network file system
+ * perhaps not those of other machines. While it is open nothing else writes, cuts or replaces it. To copy a store, close it and copy the file,
+ * or take a snapshot of the whole file system at one moment. A store keeps the bytes of its file in memory.
+ *
+ * A commit makes two writes and two syncs. It needs 6 bytes of its epoch, and 14 for each row that it puts. What `left` of struct
+ * tebaldi_file_state says at the beginning of an epoch grows only if rows are deleted, which takes a commit too: so see to it in time. */
 
 /* A store and its file. */
 struct tebaldi_file {
@@ -278,8 +293,9 @@ struct tebaldi_file {
 /* How many bytes a file can have. A half of it holds the names of the tables, the rows at 14 bytes each, and the commits of one epoch. */
 #define TEBALDI_FILE_CAPACITY 67108864
 
-/* Opens a file as the store of a tree text, or makes it, and locks it. The rows of the tree count only if the file is new. A file can be opened
- * with another tree over the same tables.
+/* Opens a file as the store of a tree text, or makes it, and locks it. The rows of the tree count only if the file is new. A file of at most 13
+ * bytes counts as new, whatever they are. A file can be opened with another tree over the same tables, in the same order; tables cannot be
+ * added. The name of a new file is made safe in the folder of `path`, which for a symbolic link is that of the link.
  * TEBALDI_IS_OPEN, TEBALDI_BAD_TREE (as tebaldi_open), TEBALDI_OUT_OF_MEMORY; TEBALDI_BUSY; TEBALDI_IO; TEBALDI_TOO_LONG;
  * TEBALDI_DAMAGED, and then `*place` is where; TEBALDI_OTHER_CAPACITY, TEBALDI_OTHER_TABLES, TEBALDI_NO_ROOM. At each of them `file` is as it
  * was; and the bytes of the file too, except at TEBALDI_IO, where it stands for the same rows. A file that a failed call has made stays: it is
@@ -287,16 +303,17 @@ struct tebaldi_file {
 uint32_t tebaldi_file_open(struct tebaldi_file *file, const char *path, const uint8_t *tree, size_t tree_len, uint8_t *fault, size_t fault_room,
                            size_t *fault_len, uint64_t *place);
 
-/* Answers a request as tebaldi_ask does. A commit that is told is in the file. Also TEBALDI_STOPPED, TEBALDI_NO_ROOM; TEBALDI_UNSURE if a call on
- * the file fails at a commit, and errno says why. */
+/* Answers a request as tebaldi_ask does. A commit that is told is in the file. TEBALDI_STOPPED; at a commit TEBALDI_NO_ROOM, and TEBALDI_UNSURE if
+ * a call on the file fails, for example since the disk is full: errno says why. */
 uint32_t tebaldi_file_ask(struct tebaldi_file *file, uint8_t session, const struct tebaldi_request *request, struct tebaldi_reply *reply);
 
-/* Begins the next epoch as tebaldi_next_epoch does. Its rows are in the file before it returns. Also TEBALDI_STOPPED, TEBALDI_NO_ROOM;
- * TEBALDI_UNSURE if a call on the file fails: the file has the same rows, in the old epoch or in the new one. */
+/* Begins the next epoch as tebaldi_next_epoch does. Its rows are in the file before it returns. TEBALDI_NO_ROOM if the rows do not fit the file;
+ * TEBALDI_STOPPED; TEBALDI_UNSURE if a call on the file fails: the file has the same rows, in the old epoch or in the new one. */
 uint32_t tebaldi_file_next_epoch(struct tebaldi_file *file, const uint8_t *tree, size_t tree_len, uint8_t *fault, size_t fault_room,
                                  size_t *fault_len, uint32_t *who);
 
-/* Closes a store and its file. */
+/* Closes a store and its file, and unlocks it. It writes nothing, and need not be called before a program ends: all that was told is in the file,
+ * and a transaction that is open leaves nothing. A closed file stays closed. */
 void tebaldi_file_close(struct tebaldi_file *file);
 
 /* A call on a file: `len` bytes are written from the place `at` on, or all that was written is made safe. */

@@ -163,6 +163,11 @@ static uint32_t open_store(struct tebaldi_file *file, const char *path, const ui
     uint8_t *bytes = NULL;
     if (fstat(file->fd, &about) != 0)
         return TEBALDI_IO;
+    /* A device has no length, so a store in it would seem to be new. */
+    if (!S_ISREG(about.st_mode)) {
+        errno = EINVAL;
+        return TEBALDI_IO;
+    }
     if (about.st_size > TEBALDI_FILE_CAPACITY)
         return TEBALDI_TOO_LONG;
     if (read_whole(file->fd, (size_t)about.st_size, &bytes) != 0)

@@ -132,6 +132,9 @@ static void refuses(const char *path)
     struct tebaldi_file file = TEBALDI_FILE_CLOSED;
     want("no folder", open_at(&file, "no/such/folder/file", ""), TEBALDI_IO);
     want("errno", (uint64_t)errno, ENOENT);
+    want("a pipe", (uint64_t)mkfifo("pipe", 0666), 0);
+    want("no regular file", open_at(&file, "pipe", ""), TEBALDI_IO);
+    want("errno", (uint64_t)errno, EINVAL);
     want("bad tree", open_at(&file, path, "format = 9"), TEBALDI_BAD_TREE);
     want("a new file stays", size_of(path), 0);
     want("and is opened", open_at(&file, path, ""), TEBALDI_OK);

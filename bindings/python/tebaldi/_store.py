@@ -2,9 +2,11 @@
 
 from __future__ import annotations
 
+import contextlib
 import os
 import threading
 import time
+import weakref
 from ctypes import byref, c_size_t, c_uint8, c_uint32, c_uint64, get_errno
 from dataclasses import dataclass
 from functools import partial
@@ -12,8 +14,8 @@ from types import TracebackType
 from typing import Any, Callable, Dict, Iterator, List, Optional, Tuple, Type, TypeVar, Union
 
 from . import _native as native
-from ._errors import (Aborted, Again, BadFile, BadRun, BadTree, Busy, NoRoom, NoSuchName, OtherTables, Refused, Stopped, TransactionOver,
-                      Unfinished, Unsure)
+from ._errors import (Aborted, Again, BadFile, BadRun, BadTree, Busy, NoRoom, NoSuchName, OtherTables, Refused, Stopped, TebaldiError,
+                      TransactionOver, Unfinished, Unsure)
 from ._native import LIBRARY
 
 T = TypeVar("T")
@@ -109,10 +111,22 @@ def _value(value: int) -> int:
     return value
 
 
+_STORES: weakref.WeakSet[Store] = weakref.WeakSet()
+
+
+def _forget_stores() -> None:
+    for store in list(_STORES):
+        store._forget()
+
+
+os.register_at_fork(after_in_child=_forget_stores)
+
+
 class Store:
     """A store, opened from a tree text. The blank text is a table `t` and a type `any` under locks.
 
-    A store is closed by close(), at the end of a `with` block, or when it is forgotten.
+    A store is closed by close(), at the end of a `with` block, or when it is forgotten. In the child of os.fork() each store of the parent is
+    closed, and the parent goes on with it.
 
     Raises BadTree if the text has a fault.
     """
@@ -129,10 +143,12 @@ class Store:
         """Opens the store that a file has, or makes the file, and locks it until the store is closed.
 
         A commit is in the file before its block ends: if the file keeps what was synced, it is there after a crash of the program or the
-        system. The tree has the tables that the file has, and its rows count only if the file is new.
+        system. Each commit waits for two syncs, and the other threads wait meanwhile. The tree has the tables that the file has, in their
+        order, and its rows count only if the file is new. A file of at most 13 bytes counts as new, whatever they are. The file is kept in
+        memory too.
 
-        Raises Busy if the file is open as a store already, OSError if it cannot be used, BadFile if it is no store or a damaged one,
-        OtherTables, NoRoom and BadTree.
+        Raises Busy if the file is open as a store already, OSError if it cannot be used, BadFile if it is no store, a damaged one or too
+        long, OtherTables, NoRoom if the rows of the tree do not fit, BadTree and MemoryError.
         """
         name = os.fsencode(path)
         if b"\0" in name:
@@ -156,14 +172,30 @@ class Store:
         self._tree = text = _bytes(tree)
         self._raw = native.RawFile(native.RawStore(), -1)
         self._file, self._at = byref(self._raw), byref(self._raw.store)
-        # One call at a time, and a place to sleep until a call has changed something.
+        self._begin_calls()
+        self._numbers: List[Dict[str, int]] = [{}, {}, {}]
+        self._admit(native.ASK, self._at)
+        _STORES.add(self)
+        return text
+
+    def _begin_calls(self) -> None:
+        """Makes the lock that admits one call at a time, and a place to sleep until a call has changed something."""
         self._lock = threading.Lock()
         self._changed = threading.Condition(self._lock)
         self._changes = 0
         self._waiters = 0
-        self._numbers: List[Dict[str, int]] = [{}, {}, {}]
-        self._admit(native.ASK, self._at)
-        return text
+
+    def _forget(self) -> None:
+        """Closes the store in the child of a fork, without a call of the library: the parent goes on with it.
+
+        A thread of the parent may have held the lock, and a child that kept the descriptor would keep the file locked.
+        """
+        self._begin_calls()
+        kept, self._raw.fd = self._raw.fd, -1
+        self._raw.store.is_open, self._raw.store.at = False, None
+        if kept > 0:
+            with contextlib.suppress(OSError):
+                os.close(kept)
 
     def _admit(self, ask: Callable[..., int], asked: Any) -> None:
         """Makes the sessions, which are all free. They ask by a function of the library: of a store, or of a store and its file."""
@@ -176,8 +208,8 @@ class Store:
         The history begins anew, and transactions count from 1 again. `tree` has the same tables, and its rows are not used; by default
         it is the one that the store has.
 
-        Raises Unfinished as long as a transaction is, BadTree, OtherTables and NoRoom: the store is then as it was. A store in a file also
-        raises Unsure and Stopped: it is stopped then, and its file has the rows.
+        Raises Unfinished as long as a transaction is, BadTree, OtherTables, MemoryError, and NoRoom if the rows do not fit the file: the store
+        is then as it was. A store in a file also raises Unsure and Stopped: it is stopped then, and its file has the rows.
         """
         text = self._tree if tree is None else _bytes(tree)
         fault, length, who = (c_uint8 * 256)(), c_size_t(), c_uint32()
@@ -186,7 +218,7 @@ class Store:
             _check_tree(status, fault, length)
             if status == native.UNFINISHED or status == native.UNTOLD:
                 raise Unfinished(who.value, 0) if status == native.UNFINISHED else Unfinished(0, who.value)
-            _check(status)
+            self._check(status)
             self._tree = text
             self._numbers = [{}, {}, {}]
             self._note_change()
@@ -217,6 +249,12 @@ class Store:
             return None
         _check(status)
         return state
+
+    def _check(self, status: int) -> None:
+        """Raises what a status means. If it stops the store, the threads that sleep wake up, and find it stopped. The lock is held."""
+        if status == native.UNSURE:
+            self._note_change()
+        _check(status)
 
     def _note_change(self) -> None:
         """Wakes the threads that sleep, if there are any, since a call has changed something. The lock is held."""
@@ -255,7 +293,8 @@ class Store:
         """Runs body(transaction) as a transaction, commits it, and returns what the body returns.
 
         After an abort the body is called anew, in a new transaction, with at most `attempts` calls: then Aborted is raised. It also raises
-        what a Transaction raises, and what the body does.
+        what a Transaction raises, and what the body does. So the body does nothing that may not happen twice, and nothing that assumes a
+        commit.
         """
         for left in range(attempts - 1, -1, -1):
             transaction = self.transaction(type, instance, timeout=timeout)
@@ -274,13 +313,13 @@ class Store:
         `verb` is "begin", "read", "write", "add", "delete", "scan", "prepare", "commit", "abort" or "end". transaction() takes from the
         same sessions, whichever are free to it: in a program that calls both, it finds the transactions that are begun here.
 
-        Of a store in a file it raises Stopped, and at a commit also NoRoom and Unsure.
+        Raises MemoryError, and then nothing was asked. Of a store in a file it also raises Stopped, and at a commit NoRoom and Unsure.
         """
         asked = native.RawRequest(_verb(verb), _within("type", type, 8), _within("table", table, 8),
                                   _within("count", count, 8), _within("instance", instance, 32), _within("key", key, 32), _value(value))
         told = native.RawReply()
         with self._changed:
-            _check(self._ask(self._asked, _within("session", session, 8), byref(asked), byref(told)))
+            self._check(self._ask(self._asked, _within("session", session, 8), byref(asked), byref(told)))
             if told.kind != native.AGAIN and told.kind != native.REFUSED:
                 self._note_change()
             return self._reply(session, told)
@@ -389,7 +428,7 @@ class Store:
 class _Session:
     """A session's number, the request and the reply of its calls, and the call itself, which takes no more arguments."""
 
-    __slots__ = ("number", "request", "reply", "values", "present", "ask")
+    __slots__ = ("number", "request", "reply", "values", "present", "ask", "is_left_open")
 
     def __init__(self, number: int, ask: Callable[..., int], asked: Any):
         self.number = number
@@ -397,41 +436,53 @@ class _Session:
         # (they share the memory of the reply)
         self.values, self.present = self.reply.values, self.reply.present
         self.ask = partial(ask, asked, number, byref(self.request), byref(self.reply))
+        # Whether memory was out when its last transaction was to be aborted.
+        self.is_left_open = False
 
 
 class Transaction:
     """A transaction of a `with` block. Tables are named as in the tree; a value is None if there is no row.
 
     Each request raises Aborted if the transaction was aborted, Refused if it cannot be answered, and Again if it has waited as long
-    as it may. At the first two the transaction is over. At the last nothing has changed. Of a store in a file each request may also
-    raise Stopped, and the commit at the end of the block NoRoom and Unsure.
+    as it may. At the first two the transaction is over; if the block goes on nevertheless, they are raised again at its end, since nothing
+    is committed. At Again and at MemoryError nothing has changed. Of a store in a file each request may also raise Stopped, and the commit
+    at the end of the block NoRoom and Unsure.
 
-    `number` is the transaction's number, and `was_aborted` says whether the store has aborted it.
+    One thread at a time uses a transaction. `number` is its number, and `was_aborted` says whether the store has aborted it.
     """
 
-    __slots__ = ("_store", "_type", "_instance", "_timeout", "_session", "number", "was_aborted")
+    __slots__ = ("_store", "_type", "_instance", "_timeout", "_session", "_ended_by", "number", "was_aborted")
 
     def __init__(self, store: Store, type: str, instance: int, timeout: float):
         self._store, self._type, self._instance, self._timeout = store, type, instance, timeout
         self._session: Optional[_Session] = None
+        self._ended_by: Optional[TebaldiError] = None
         self.number = 0
         self.was_aborted = False
 
     def __enter__(self) -> Transaction:
+        if self._session is not None:
+            raise RuntimeError("the transaction has begun already")
+        self._ended_by, self.was_aborted = None, False
         store = self._store
         with store._lock:
             if not store._free and not store._sleep(lambda: store._free, self._timeout):
-                raise Again(0, "every session")
+                raise Again(0, "")
             self._session = store._free.pop()
         try:
             self._begin(self._session)
         except BaseException:
-            self._end(False)
+            self._ended_by = None
+            # (an interrupt may come once it has begun)
+            self._end(self._session is not None and self._session.reply.kind == native.BEGUN)
             raise
         return self
 
     def __exit__(self, type: Optional[Type[BaseException]], error: Optional[BaseException], trace: Optional[TracebackType]) -> None:
+        ended_by, self._ended_by = self._ended_by, None
         if self._session is None:
+            if type is None and ended_by is not None:
+                raise ended_by
             return
         committed = False
         try:
@@ -490,8 +541,12 @@ class Transaction:
     def _begin(self, session: _Session) -> None:
         """Begins, by the number that the type has in the present epoch."""
         store, request = self._store, session.request
-        request.verb, request.instance = _BEGIN, self._instance
         with store._lock:
+            if session.is_left_open:
+                request.verb = _ABORT
+                store._check(session.ask())
+                session.is_left_open = False
+            request.verb, request.instance = _BEGIN, self._instance
             request.type = store._number_locked(native.TYPES, self._type)
             status = session.ask()
             if status or session.reply.kind >= native.AGAIN:
@@ -524,17 +579,17 @@ class Transaction:
                 # (the next epoch may have begun meanwhile)
                 session.request.type = store._number_locked(native.TYPES, self._type)
             status = session.ask()
-        _check(status)
+        store._check(status)
         if told.kind == native.REFUSED:
-            why = native.REFUSALS[told.refusal]
+            self._ended_by = Refused(native.REFUSALS[told.refusal])
             self._end_locked(session, session.request.verb != _BEGIN)
-            raise Refused(why)
+            raise self._ended_by
         store._note_change()
         if told.kind == native.ABORTED:
-            cause, line = native.CAUSES[told.cause.why], store._line(session.number, told)
+            self._ended_by = Aborted(native.CAUSES[told.cause.why], store._line(session.number, told))
             self.was_aborted = True
             self._end_locked(session, False)
-            raise Aborted(cause, line)
+            raise self._ended_by
         return session
 
     def _end(self, aborts: bool) -> None:
@@ -547,7 +602,7 @@ class Transaction:
         store = self._store
         if aborts:
             session.request.verb = _ABORT
-            session.ask()
+            session.is_left_open = session.ask() == native.OUT_OF_MEMORY
         self._session = None
         store._free.append(session)
         store._note_change()

@@ -5,6 +5,7 @@ import errno
 import json
 import os
 import pathlib
+import pickle
 import pydoc
 import tempfile
 import threading
@@ -13,7 +14,7 @@ import unittest
 
 import tebaldi
 from tebaldi import (_native, _store, Aborted, Again, BadFile, BadRun, BadTree, Busy, NoSuchName, OtherTables, Refused, Stopped, Store,
-                     TransactionOver, Unfinished, Unsure)
+                     TebaldiError, TransactionOver, Unfinished, Unsure)
 
 ACCOUNTS = """
 format = 1
@@ -79,6 +80,96 @@ class StoreTest(unittest.TestCase):
             t.add("account", 9, 1)
         self.assertEqual(caught.exception.why, "not-read")
         self.assertEqual([e.cause for e in self.store.events() if e.happened == "gone"], ["asked"])
+
+    def test_a_block_that_goes_on_after_a_refusal_is_not_taken_for_a_commit(self) -> None:
+        def body(t: tebaldi.Transaction) -> str:
+            with self.assertRaises(Refused):
+                t.add("account", 9, 1)
+            return "done"
+
+        with self.assertRaises(Refused):
+            self.store.run("transfer", body)
+        self.assertEqual(self.store.order(), [])
+
+    def test_a_run_starts_over_after_an_abort_that_its_body_catches(self) -> None:
+        starts = []
+
+        def body(t: tebaldi.Transaction) -> int:
+            starts.append(t.number)
+            if len(starts) == 1:
+                with self.store.transaction("transfer") as newer:
+                    newer.write("account", 1, 9)
+                    with self.assertRaises(Aborted):
+                        t.write("account", 1, 5)
+                return 0
+            t.write("account", 1, 6)
+            return len(starts)
+
+        self.assertEqual(self.store.run("transfer", body), 2)
+        self.assertEqual(self.store.rows(), [("account", 1, 6)])
+
+    def test_an_abort_without_memory_is_made_up_for(self) -> None:
+        with self.store.transaction("transfer") as t:
+            session, ask = t._session, t._session.ask
+            t.write("account", 1, 5)
+            session.ask = lambda: _native.OUT_OF_MEMORY
+            t.abort()
+        session.ask = ask
+        with self.store.transaction("transfer") as t:
+            self.assertEqual(t.read("account", 1), 100)
+        self.assertEqual(self.store.order(), [2])
+
+    def test_an_interrupt_leaves_nothing_open(self) -> None:
+        session = self.store._free[-1]
+        ask = session.ask
+
+        def interrupted() -> int:
+            session.ask = ask
+            ask()
+            raise KeyboardInterrupt
+
+        session.ask = interrupted
+        with self.assertRaises(KeyboardInterrupt), self.store.transaction("transfer"):
+            pass
+        with self.store.transaction("transfer") as t:
+            t.write("account", 1, 5)
+        self.assertEqual([e.happened for e in self.store.events()], ["began", "gone", "began", "put", "done"])
+
+    def test_a_transaction_begins_once_at_a_time(self) -> None:
+        transaction = self.store.transaction("transfer")
+        with transaction, self.assertRaises(RuntimeError):
+            transaction.__enter__()
+        with transaction as t:
+            self.assertEqual(t.number, 2)
+
+    def test_a_stopped_store_wakes_those_that_wait(self) -> None:
+        with self.store.transaction("transfer") as t:
+            t.read("account", 1)
+            raised = []
+
+            def newer() -> None:
+                try:
+                    with self.store.transaction("transfer") as other:
+                        other.write("account", 1, 5)
+                except TebaldiError as error:
+                    raised.append(error)
+
+            thread = threading.Thread(target=newer)
+            thread.start()
+            while not self.store._waiters:
+                time.sleep(0.001)
+            seen = self.store._changes
+            with self.assertRaises(Unsure), self.store._lock:
+                self.store._check(_native.UNSURE)
+            self.assertGreater(self.store._changes, seen)
+        thread.join()
+        self.assertEqual(raised, [])
+
+    def test_exceptions_are_copied(self) -> None:
+        for error in [Again(3, "root"), Aborted("newer", "1 aborted newer root t2"), Refused("full"), BadRun(4, "row"), Unfinished(0, 7),
+                      BadFile("the file is damaged", 1), Unsure("a call on the file failed", errno.EIO), NoSuchName("table u")]:
+            copy = pickle.loads(pickle.dumps(error))
+            self.assertEqual((type(copy), str(copy), vars(copy)), (type(error), str(error), vars(error)))
 
     def test_waits_until_the_other_commits(self) -> None:
         done = []
@@ -247,6 +338,36 @@ class FileTest(unittest.TestCase):
         with self.assertRaises(FileNotFoundError):
             tebaldi.open_file(self.path.parent / "no" / "such")
         self.assertIsNone(Store().kept)
+
+    def test_a_fork_has_no_store(self) -> None:
+        store = tebaldi.open_file(self.path, ACCOUNTS)
+        begun, ended = os.pipe(), os.pipe()
+        store._lock.acquire()
+        child = os.fork()
+        if child == 0:
+            try:
+                with self.assertRaisesRegex(ValueError, "closed"):
+                    store.rows()
+                store.close()
+                os.write(begun[1], b".")
+                # (it lives until the parent has opened the file anew, or has ended)
+                os.close(ended[1])
+                os.read(ended[0], 1)
+                os._exit(0)
+            finally:
+                os._exit(1)
+        os.close(begun[1])
+        store._lock.release()
+        with store.transaction("transfer") as t:
+            t.write("account", 1, 5)
+        store.close()
+        self.assertEqual(os.read(begun[0], 1), b".")
+        with tebaldi.open_file(self.path, ACCOUNTS) as again:
+            self.assertEqual(again.rows(), [("account", 1, 5)])
+        os.close(ended[1])
+        self.assertEqual(os.waitstatus_to_exitcode(os.waitpid(child, 0)[1]), 0)
+        os.close(begun[0])
+        os.close(ended[0])
 
     def test_a_path_is_not_cut(self) -> None:
         with self.assertRaises(ValueError):

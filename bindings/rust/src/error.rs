@@ -22,7 +22,7 @@ pub enum Error {
     },
     /// The transaction was aborted, and is over.
     Aborted(Cause),
-    /// The request cannot be answered. Its transaction was aborted, and is over.
+    /// The request cannot be answered. Its transaction, if it has one, was aborted, and is over.
     Refused(Refusal),
     /// The transaction is over.
     Over,
@@ -39,6 +39,7 @@ pub enum Error {
     Unfinished(TxnNumber),
     /// A session, by its number, was not told that its transaction was aborted.
     Untold(u8),
+    /// Memory is out. Nothing was asked, and nothing has changed.
     OutOfMemory,
     /// The file is open as a store already, in this process or another.
     Busy,
@@ -50,9 +51,12 @@ pub enum Error {
     },
     /// The file has a store of another capacity.
     OtherCapacity,
-    /// The commit or the rows do not fit the file. Nothing has changed; the next epoch has room.
+    /// The commit does not fit what is left of its epoch, or the rows do not fit the file. Nothing has changed. After a commit
+    /// [`Store::next_epoch`](crate::Store::next_epoch) makes room, unless the rows alone fill their half of the file: see
+    /// [`Store::left`](crate::Store::left).
     NoRoom,
-    /// A call on the file failed. The file may have this commit, or the new epoch, or not, and the store is stopped.
+    /// A call on the file failed. The file may have this commit, or the new epoch, or not, and the store is stopped. What the store still
+    /// tells, its rows among it, has the commit: open the file anew to see what the file has.
     /// [`Store::stopped_by`](crate::Store::stopped_by) says why.
     Unsure,
     /// A call on the file has failed earlier. Open the file anew: it has every commit that was told.
@@ -62,11 +66,17 @@ pub enum Error {
 /// What a line of a printed run breaks.
 #[derive(Clone, Copy, Debug, PartialEq, Eq)]
 pub enum RunFault {
+    /// It is no line of a printed run, or not at this place.
     Form,
+    /// It is an event that its transaction cannot have here: it has not begun, or has finished.
     Txn,
+    /// The order does not list each committed transaction once.
     Order,
+    /// A transaction commits before one that it read from.
     After,
+    /// A committed transaction read another value than in the serial run.
     Read,
+    /// The rows are not those of the serial run.
     Row,
 }
 

@@ -3,6 +3,7 @@
 use crate::error::Error;
 use crate::store::Store;
 use crate::words::{Cell, Kind, Reply, Request, Table, TxnNumber};
+use std::fmt;
 use std::time::{Duration, Instant};
 
 /// How often [`Session::run`] starts over, and how long one of its requests waits.
@@ -10,7 +11,7 @@ use std::time::{Duration, Instant};
 pub struct Limits {
     /// The number of times that the transaction is started, at least 1. 100 by default.
     pub attempts: u32,
-    /// How long a request sleeps while the answer is to ask again. 10 seconds by default.
+    /// How long a request sleeps while the answer is to ask again. 10 seconds by default; `Duration::MAX` has no end.
     pub wait: Duration,
 }
 
@@ -28,6 +29,15 @@ pub struct Session {
     store: Store,
     number: u8,
     limits: Limits,
+}
+
+impl fmt::Debug for Session {
+    fn fmt(&self, f: &mut fmt::Formatter<'_>) -> fmt::Result {
+        f.debug_struct("Session")
+            .field("number", &self.number)
+            .field("limits", &self.limits)
+            .finish_non_exhaustive()
+    }
 }
 
 impl Drop for Session {
@@ -92,8 +102,10 @@ impl Session {
     }
 
     /// Runs a transaction and commits it. While the answer to a request is to ask again, the session sleeps until another session
-    /// has changed something. After an abort the body is called anew, in a new transaction. If the body returns an error and its
-    /// transaction is not over, the transaction is aborted and the error is returned.
+    /// has changed something. After an abort the body is called anew, in a new transaction, so it does nothing that may not happen twice. If
+    /// the body returns an error and its transaction is not over, the transaction is aborted and the error is returned. If the body returns
+    /// `Ok` after a call by which its transaction is over, nothing is committed: after an abort it is called anew, and after a refusal
+    /// [`Error::Refused`] is returned.
     ///
     /// # Errors
     /// [`Error::Again`] if a request waited longer than [`Limits::wait`], and [`Error::Aborted`] if the last of
@@ -126,13 +138,17 @@ impl Session {
             let done = match body(&mut txn) {
                 Ok(value) => match txn.commit() {
                     Ok(()) => Ok(value),
-                    // (the body has committed or aborted it by itself)
-                    Err(Error::Over) if !txn.was_aborted => Ok(value),
+                    Err(Error::Over) => match txn.ended_by.clone() {
+                        // (the body has committed it by itself)
+                        None => Ok(value),
+                        Some(error) => Err(error.into()),
+                    },
                     Err(error) => Err(error.into()),
                 },
                 Err(error) => Err(error),
             };
-            if done.is_ok() || !txn.was_aborted || attempt >= attempts {
+            let was_aborted = matches!(txn.ended_by, Some(Error::Aborted(_)));
+            if done.is_ok() || !was_aborted || attempt >= attempts {
                 return done;
             }
         }
@@ -140,7 +156,7 @@ impl Session {
     }
 }
 
-/// A transaction. One that is dropped before it is over is aborted.
+/// A transaction. One that is dropped before it is over is aborted; if memory is out then, before its session begins the next one.
 ///
 /// Each call returns [`Error::Again`] if it has to wait (in [`Session::run`] only after it has slept as long as it may): nothing
 /// has changed, and the same call may be made again. At [`Error::Aborted`] and [`Error::Refused`] the transaction is over, and all
@@ -151,13 +167,23 @@ pub struct Txn<'a> {
     number: TxnNumber,
     wait: Option<Duration>,
     is_over: bool,
-    was_aborted: bool,
+    /// The abort or the refusal by which it is over.
+    ended_by: Option<Error>,
+}
+
+impl fmt::Debug for Txn<'_> {
+    fn fmt(&self, f: &mut fmt::Formatter<'_>) -> fmt::Result {
+        f.debug_struct("Txn")
+            .field("number", &self.number)
+            .field("is_over", &self.is_over)
+            .finish_non_exhaustive()
+    }
 }
 
 impl Drop for Txn<'_> {
     fn drop(&mut self) {
         if !self.is_over {
-            let _ = self.session.store.ask(self.session.number, Request::Abort);
+            self.session.store.shared.abort(self.session.number);
         }
     }
 }
@@ -174,8 +200,10 @@ impl<'a> Txn<'a> {
             number: TxnNumber(0),
             wait,
             is_over: true,
-            was_aborted: false,
+            ended_by: None,
         };
+        let session = &txn.session;
+        session.store.shared.abort_left_open(session.number)?;
         match txn.reply(Request::Begin { kind, instance })? {
             Reply::Begun(number) => txn.number = number,
             Reply::Again { who, node } => return Err(Error::Again { who, node }),
@@ -268,26 +296,30 @@ impl<'a> Txn<'a> {
         }
         match self.reply(request)? {
             Reply::Again { who, node } => Err(Error::Again { who, node }),
-            Reply::Aborted(cause) => {
-                (self.is_over, self.was_aborted) = (true, true);
-                Err(Error::Aborted(cause))
-            }
+            Reply::Aborted(cause) => Err(self.end_by(Error::Aborted(cause))),
             Reply::Refused(why) => {
-                self.session
-                    .store
-                    .ask(self.session.number, Request::Abort)?;
-                self.is_over = true;
-                Err(Error::Refused(why))
+                self.session.store.shared.abort(self.session.number);
+                Err(self.end_by(Error::Refused(why)))
             }
             reply => Ok(reply),
         }
+    }
+
+    /// Keeps that the transaction is over by an error, and returns the error.
+    fn end_by(&mut self, error: Error) -> Error {
+        self.is_over = true;
+        self.ended_by = Some(error.clone());
+        error
     }
 
     fn reply(&mut self, request: Request) -> Result<Reply, Error> {
         let shared = &self.session.store.shared;
         match self.wait {
             None => shared.ask(self.session.number, request),
-            Some(wait) => shared.ask_until(self.session.number, request, Instant::now() + wait),
+            Some(wait) => {
+                let until = Instant::now().checked_add(wait);
+                shared.ask_until(self.session.number, request, until)
+            }
         }
     }
 }

@@ -5,16 +5,17 @@ use crate::ffi::{self, RawEvent, RawFile, RawFileState, RawReply, RawRow, NO_SUC
 use crate::session::{Session, Txn};
 use crate::words::{cell, Cell, Event, Kind, Node, Reply, Request, Table, TxnNumber};
 use std::ffi::CString;
+use std::fmt;
 use std::io;
 use std::os::unix::ffi::OsStrExt;
 use std::path::Path;
 use std::sync::{Arc, Condvar, Mutex, MutexGuard, PoisonError};
-use std::time::Instant;
+use std::time::{Duration, Instant};
 
 /// The number of the system for an argument that is none, here a path with a 0 in it.
 const EINVAL: i32 = 22;
 
-/// A store. Clones share it, also between threads: a lock admits one call at a time.
+/// A store. Clones share it, also between threads: a lock admits one call at a time. A child process that `fork` makes does not use it.
 ///
 /// ```
 /// let store = tebaldi::Store::open("")?; // the blank tree: a table `t` and a type `any`
@@ -43,18 +44,16 @@ struct State {
     /// The number of the system's error that has stopped the store.
     stopped_by: Option<i32>,
     taken: [bool; 32],
+    /// Whether memory was out when a session's last transaction was to be aborted.
+    left_open: [bool; 32],
     /// The number of calls so far that may let another session go on.
     changes: u64,
     waiters: u32,
 }
 
-impl State {
-    /// The error of a status that a call has just returned.
-    fn error_of(&mut self, status: u32) -> Error {
-        if status == ffi::UNSURE {
-            self.stopped_by = Some(errno());
-        }
-        error_of(status)
+impl fmt::Debug for Store {
+    fn fmt(&self, f: &mut fmt::Formatter<'_>) -> fmt::Result {
+        f.debug_struct("Store").finish_non_exhaustive()
     }
 }
 
@@ -99,9 +98,11 @@ impl Store {
     }
 
     /// Opens the store that a file has, or makes the file. A commit is in the file before it is told: if the file keeps what was synced, it is
-    /// there after a crash of the program or the system. The file is locked until the last clone of the store is dropped.
+    /// there after a crash of the program or the system. Each commit waits for two syncs, and the other threads wait meanwhile. The file is
+    /// locked until the last clone and the last session of the store are dropped. It is kept in memory too.
     ///
-    /// The tree has the tables that the file has, and its rows count only if the file is new. Its controls may differ from the last ones.
+    /// The tree has the tables that the file has, in their order, and its rows count only if the file is new. Its controls may differ from the
+    /// last ones. A file of at most 13 bytes counts as new, whatever they are.
     ///
     /// # Errors
     /// [`Error::BadTree`], [`Error::Busy`], [`Error::Io`], [`Error::TooLong`], [`Error::Damaged`], [`Error::OtherCapacity`],
@@ -152,6 +153,7 @@ impl Store {
             raw,
             stopped_by: None,
             taken: [false; 32],
+            left_open: [false; 32],
             changes: 0,
             waiters: 0,
         };
@@ -168,8 +170,9 @@ impl Store {
         self.file_state().map(|file| file.kept)
     }
 
-    /// The number of bytes that are left in the file for the commits of this epoch, or `None` if the store has no file. A commit that does
-    /// not fit is answered [`Error::NoRoom`]: begin the next epoch.
+    /// The number of bytes that are left in the file for the commits of this epoch, or `None` if the store has no file. A commit needs 6, and
+    /// 14 for each row that it puts. One that does not fit is answered [`Error::NoRoom`]: begin the next epoch. What is left at the beginning
+    /// of an epoch grows only if rows are deleted.
     pub fn left(&self) -> Option<u64> {
         self.file_state().map(|file| file.left)
     }
@@ -223,15 +226,14 @@ impl Store {
         };
         match status {
             OK => {
-                state.changes += 1;
-                self.shared.changed.notify_all();
+                self.shared.note_change(&mut state);
                 Ok(())
             }
             ffi::BAD_TREE => Err(Error::BadTree(text(&fault, len).trim_end().to_string())),
             ffi::OTHER_TABLES => Err(Error::OtherTables),
             ffi::UNFINISHED => Err(Error::Unfinished(TxnNumber(who))),
             ffi::UNTOLD => Err(Error::Untold(who as u8)),
-            _ => Err(state.error_of(status)),
+            _ => Err(self.shared.error_of(&mut state, status)),
         }
     }
 
@@ -462,13 +464,30 @@ impl Shared {
         self.ask_locked(&mut self.lock(), session, request)
     }
 
-    /// Asks, and sleeps as long as the reply is to ask again and `until` has not come. A reply can only become another once a
-    /// session has changed something, so nothing is asked in between.
+    /// Aborts the transaction of a session. If memory is out, `abort_left_open` does so later.
+    pub(crate) fn abort(&self, session: u8) {
+        let mut state = self.lock();
+        let aborted = self.ask_locked(&mut state, session, Request::Abort);
+        state.left_open[usize::from(session) - 1] = aborted == Err(Error::OutOfMemory);
+    }
+
+    /// Aborts the transaction that a session still has because memory was out.
+    pub(crate) fn abort_left_open(&self, session: u8) -> Result<(), Error> {
+        let (mut state, place) = (self.lock(), usize::from(session) - 1);
+        if state.left_open[place] {
+            self.ask_locked(&mut state, session, Request::Abort)?;
+            state.left_open[place] = false;
+        }
+        Ok(())
+    }
+
+    /// Asks, and sleeps as long as the reply is to ask again and `until` has not come, if there is such a time. A reply can only become another
+    /// once a session has changed something, so nothing is asked in between.
     pub(crate) fn ask_until(
         &self,
         session: u8,
         request: Request,
-        until: Instant,
+        until: Option<Instant>,
     ) -> Result<Reply, Error> {
         let mut state = self.lock();
         loop {
@@ -479,7 +498,9 @@ impl Shared {
             let seen = state.changes;
             state.waiters += 1;
             while state.changes == seen {
-                let left = until.saturating_duration_since(Instant::now());
+                let left = until.map_or(Duration::MAX, |until| {
+                    until.saturating_duration_since(Instant::now())
+                });
                 if left.is_zero() {
                     state.waiters -= 1;
                     return Ok(reply);
@@ -503,16 +524,30 @@ impl Shared {
             }
         };
         if status != OK {
-            return Err(state.error_of(status));
+            return Err(self.error_of(state, status));
         }
         let reply = Reply::of(&told);
         if !matches!(reply, Reply::Again { .. } | Reply::Refused(_)) {
-            state.changes += 1;
-            if state.waiters > 0 {
-                self.changed.notify_all();
-            }
+            self.note_change(state);
         }
         Ok(reply)
+    }
+
+    /// The error of a status that a call has just returned. If it stops the store, those that sleep wake up, and find it stopped.
+    fn error_of(&self, state: &mut State, status: u32) -> Error {
+        if status == ffi::UNSURE {
+            state.stopped_by = Some(errno());
+            self.note_change(state);
+        }
+        error_of(status)
+    }
+
+    /// Wakes those that sleep, if there are any, since a call has changed something.
+    fn note_change(&self, state: &mut State) {
+        state.changes += 1;
+        if state.waiters > 0 {
+            self.changed.notify_all();
+        }
     }
 
     pub(crate) fn give_back(&self, session: u8) {

@@ -93,16 +93,27 @@ pub enum Cause {
 /// Why a request was refused.
 #[derive(Clone, Copy, Debug, PartialEq, Eq)]
 pub enum Refusal {
+    /// The session is not 1 to 32.
     BadSession,
+    /// A begin while the session has a transaction.
     InTxn,
+    /// The tree has no such type.
     UnknownType,
+    /// 8,192 transactions have begun: [`Store::next_epoch`](crate::Store::next_epoch) goes on.
     Full,
+    /// The session has no transaction.
     NoTxn,
+    /// The tree has no such table.
     UnknownTable,
+    /// The transaction is prepared: it can only commit or abort.
     Prepared,
+    /// No remaining step of the type has the table.
     NotInProfile,
+    /// A scan of no rows, of more than 16, or past the last key.
     Range,
+    /// An add to a row that the transaction has neither written nor read.
     NotRead,
+    /// The sum of an add does not fit 64 bits.
     Overflow,
 }
 

@@ -42,6 +42,80 @@ fn a_refused_request_aborts_its_transaction() {
 }
 
 #[test]
+fn a_body_that_goes_on_after_a_refusal_is_not_taken_for_a_commit() {
+    let (store, t, any) = blank();
+    let mut session = store.session().unwrap();
+    let done: Result<u8, Error> = store.run(&mut session, any, |txn| {
+        let _ = txn.add(t, 2, 1);
+        Ok(7)
+    });
+    assert_eq!(done, Err(Error::Refused(Refusal::NotRead)));
+    assert_eq!(store.order().unwrap(), []);
+    let done: Result<u8, Error> = store.run(&mut session, any, |txn| {
+        txn.write(t, 2, 1)?;
+        txn.commit()?;
+        Ok(7)
+    });
+    assert_eq!(done, Ok(7));
+}
+
+#[test]
+fn a_run_starts_over_after_an_abort_that_its_body_drops() {
+    let (store, t, any) = blank();
+    let (mut first, mut second) = (store.session().unwrap(), store.session().unwrap());
+    let mut starts = 0;
+    let done: Result<i32, Error> = first.run(any, |txn| {
+        starts += 1;
+        if starts == 1 {
+            let mut other = second.begin(any)?;
+            other.write(t, 1, 9)?;
+            let _ = txn.write(t, 1, 5);
+            other.commit()?;
+            return Ok(0);
+        }
+        txn.write(t, 1, 6)?;
+        Ok(starts)
+    });
+    assert_eq!(done, Ok(2));
+    assert_eq!(store.rows().unwrap(), [(Cell { table: t, key: 1 }, 6)]);
+}
+
+#[test]
+fn a_wait_may_have_no_end() {
+    let (store, t, any) = blank();
+    let (mut first, mut second) = (store.session().unwrap(), store.session().unwrap());
+    let mut older = first.begin(any).unwrap();
+    older.read(t, 7).unwrap();
+    second.set_limits(Limits {
+        attempts: 1,
+        wait: Duration::MAX,
+    });
+    let newer = thread::spawn(move || second.run(any, |txn| txn.write(t, 7, 4)));
+    thread::sleep(Duration::from_millis(50));
+    older.commit().unwrap();
+    assert_eq!(newer.join().unwrap(), Ok(()));
+}
+
+#[test]
+fn stores_and_what_they_lend_are_shown_and_go_to_other_threads() {
+    fn is_shared<T: Send + Sync>(_: &T) {}
+    let (store, _, any) = blank();
+    let mut session = store.session().unwrap();
+    is_shared(&store);
+    is_shared(&session);
+    let fault = Store::open("format = 9").unwrap_err();
+    assert!(fault.to_string().starts_with("bad tree: "));
+    let shown = format!("{store:?} {session:?}");
+    assert!(shown.starts_with("Store { .. } Session { number: 1"));
+    let txn = session.begin(any).unwrap();
+    is_shared(&txn);
+    assert_eq!(
+        format!("{txn:?}"),
+        "Txn { number: TxnNumber(1), is_over: false, .. }"
+    );
+}
+
+#[test]
 fn a_session_that_waits_goes_on_when_the_other_commits() {
     let (store, t, any) = blank();
     let (mut first, mut second) = (store.session().unwrap(), store.session().unwrap());
