@@ -1,14 +1,13 @@
 #!/usr/bin/env python3
-"""Checks that the code shown in docs/ and README.md is cut out of the files that it names, and that the links of each page lead to what they name.
+"""Checks that the code shown in docs/, README.md and CONTRIBUTING.md is cut out of the files that it names, and that the links of each page lead to what they name.
 
 A block below a line `<!-- excerpt: FILE -->` is a run of lines of that file; some page has one. A link leads to a file, or to a heading of a page. If the text of
 a link is names in backticks, each is in the file or in its path. The last line is `excerpts: N passed, M failed`; the links of a page count as one.
 """
-import pathlib
 import re
 import sys
 
-TOP = pathlib.Path(__file__).resolve().parent.parent
+from pages import PAGES, TOP, name_of
 
 
 def headings(page):
@@ -39,23 +38,23 @@ def faults_of_links(page):
 
 def main():
     passed = failed = excerpts = 0
-    for page in [TOP / "README.md", *sorted((TOP / "docs").glob("*.md"))]:
+    for page in PAGES:
         text = page.read_text()
         blocks = re.findall(r"(?ms)^<!-- excerpt: (\S+) -->\n```\w*\n(.*?)^```$", text)
         lost = text.count("<!-- excerpt") - len(blocks)
         excerpts, failed = excerpts + len(blocks), failed + lost
         if lost:
-            print(f"FAILED {page.name}: {lost} lines `<!-- excerpt: FILE -->` have no block below them")
+            print(f"FAILED {name_of(page)}: {lost} lines `<!-- excerpt: FILE -->` have no block below them")
         for name, block in blocks:
             file = TOP / name
             is_there = file.exists() and f"\n{block}" in f"\n{file.read_text()}"
             passed, failed = passed + is_there, failed + (not is_there)
             if not is_there:
-                print(f"FAILED {page.name}: the block that begins with `{block.splitlines()[0].strip()}` is not in {name}")
+                print(f"FAILED {name_of(page)}: the block that begins with `{block.splitlines()[0].strip()}` is not in {name}")
         faults = list(faults_of_links(page))
         passed, failed = passed + (not faults), failed + bool(faults)
         for fault in faults:
-            print(f"FAILED {page.name}: {fault}")
+            print(f"FAILED {name_of(page)}: {fault}")
     if not excerpts:
         failed += 1
         print("FAILED: no page has an excerpt")

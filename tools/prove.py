@@ -89,8 +89,8 @@ def main():
         rt.share_work(True)
     every = rt.rtlib.crates_below(str(TOP))
     unknown = [it for it in names if it not in [crate.name for crate in every]]
-    if unknown or any(it.startswith("-") for it in names):
-        print(__doc__, file=sys.stderr)
+    if unknown:
+        print(f"{__doc__}\nprove: crates.txt has no crate {unknown[0]}", file=sys.stderr)
         return 2
     wanted = {below for it in every if not names or it.name in names for below in [it, *it.below()]}
     crates = [it for it in every if it in wanted]

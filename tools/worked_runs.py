@@ -24,7 +24,7 @@ A run is a line of the table in runs/FOLDER/README.md. Its columns:
     Tree     the tree text of such a run, relative to the folder
     Reads    the files of the folder that its lines read; they name them from the top of the repository
 
-The commands of README.md are runs too: each line that begins with `$`, with the text below it.
+The commands that README.md and the pages of docs/ show are runs too: each line that begins with `$`, with the text below it.
 The last line is `runs: N passed, M failed`.
 """
 import argparse
@@ -40,7 +40,8 @@ import subprocess
 import sys
 import tempfile
 
-TOP = pathlib.Path(__file__).resolve().parent.parent
+from pages import PAGES, TOP, name_of
+
 BUILT = TOP / "crates/tebaldi/out/tebaldi"
 SHELL = TOP / "crates/tebaldi_shell/out/tebaldi_shell"
 SECONDS = 120
@@ -272,10 +273,10 @@ def broken(why):
 
 
 class Shown:
-    """A command of README.md, with the text that is shown below it."""
+    """A command of a page, with the text that is shown below it."""
 
-    def __init__(self, command, text):
-        self.name, self.command, self.text = f"README.md: {command}", command, text
+    def __init__(self, page, command, text):
+        self.name, self.command, self.text = f"{name_of(page)}: {command}", command, text
 
     def differs(self, program):
         command = self.command.replace("./tebaldi_shell", shlex.quote(str(SHELL)))
@@ -284,17 +285,19 @@ class Shown:
         return None if ran.stdout == self.text else difference(self.text, ran.stdout)
 
 
-def shown_in(readme):
-    """The commands of README.md that show a text, except those of rt."""
-    for block in re.findall(r"(?ms)^```\n(.*?)^```$", readme):
+def shown_in(page):
+    """The commands of a page that show a text, except those of rt."""
+    for language, block in re.findall(r"(?ms)^```(\w*)\n(.*?)^```$", page.read_text()):
+        if language:
+            continue
         for command, text in re.findall(r"(?m)^\$ (.*)\n((?:[^$\n].*\n|\n)*)", block):
             if not command.startswith("rt "):
-                yield Shown(command.partition("   #")[0], text.encode())
+                yield Shown(page, command.partition("   #")[0], text.encode())
 
 
 def all_runs(words):
     found = [run for folder in sorted((TOP / "runs").iterdir()) if (folder / "README.md").exists() for run in runs_of(folder)]
-    found += shown_in((TOP / "README.md").read_text())
+    found += [run for page in PAGES for run in shown_in(page)]
     return [it for it in found if not words or any(word in it.name for word in words)]
 
 
