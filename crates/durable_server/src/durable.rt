@@ -5,13 +5,13 @@ ghost use Rattle.teb_rules.specs.declared.names.Reply.{Reply as TheReply};
 ghost use Rattle.teb_rules.specs.declared.names.Reply.TheVariants as replies;
 ghost use Rattle.teb_rules.specs.Answer.{answer};
 ghost use Rattle.hall_server.specs.Told.{events_after, told, IsToldBy};
-ghost use Rattle.hall_server.specs.declared.failure.Failure.TheVariants as failures;
-ghost use Rattle.hall_server.specs.declared.failure.Fault.TheVariants as faults;
+ghost use Rattle.hall_server.specs.declared.error.ServerError.TheVariants as failures;
+ghost use Rattle.hall_server.specs.declared.error.UnaskedError.TheVariants as faults;
 ghost use Rattle.commit_journal.specs.Asking.{HasNoRoom};
 
 use commit_journal::{Durable, DurableError};
 use crash_disk::Disk;
-use hall_server::{Failure, Fault, Server};
+use hall_server::{Server, ServerError, UnaskedError};
 use std::alloc::Global;
 use teb_rules::history::History;
 use teb_rules::names::{Reply, Request, Session};
@@ -38,7 +38,12 @@ impl<C: Chains, D: Disk> Server for DurableServer<C, D> {
     /// # Errors
     /// `Unasked` leaves the store as it was: `Stopped` is returned if and only if the disk has failed before, and `Full` only if the disk
     /// may not hold the commit. `Unsure` is returned if the disk fails at a commit.
-    fn serve(&mut self, alloc: Global, session: Session, request: Request) -> Result<Reply, Failure>
+    fn serve(
+        &mut self,
+        alloc: Global,
+        session: Session,
+        request: Request,
+    ) -> Result<Reply, ServerError>
         ensures reply { IsToldBy (told result) (answer self.old.durable.store self.old.durable.events session request).0 }
         ensures events { self.new.durable.events ≡ events_after (told result) self.old.durable.events (answer self.old.durable.store self.old.durable.events session request).1 }
         ensures store { self.new.durable.store ≡ self.old.durable.store }
@@ -51,10 +56,10 @@ impl<C: Chains, D: Disk> Server for DurableServer<C, D> {
     {
         match self.durable.ask(alloc, session, request) {
             Ok(reply) => Ok(reply),
-            Err(DurableError::Stopped) => Err(Failure::Unasked(Fault::Stopped)),
-            Err(DurableError::Full) => Err(Failure::Unasked(Fault::Full)),
-            Err(DurableError::OutOfMemory) => Err(Failure::Unasked(Fault::OutOfMemory)),
-            Err(DurableError::DiskFault) => Err(Failure::Unsure(Reply::Committed)),
+            Err(DurableError::Stopped) => Err(ServerError::Unasked(UnaskedError::Stopped)),
+            Err(DurableError::Full) => Err(ServerError::Unasked(UnaskedError::Full)),
+            Err(DurableError::OutOfMemory) => Err(ServerError::Unasked(UnaskedError::OutOfMemory)),
+            Err(DurableError::DiskFault) => Err(ServerError::Unsure(Reply::Committed)),
         }
     }
 

@@ -5,14 +5,14 @@ ghost use Rattle.teb_rules.specs.declared.names.Reply.{Reply as TheReply};
 ghost use Rattle.teb_rules.specs.declared.names.Reply.TheVariants as replies;
 ghost use Rattle.teb_rules.specs.Answer.{answer};
 ghost use Rattle.hall_server.specs.Told.{events_after, told, IsToldBy};
-ghost use Rattle.hall_server.specs.declared.failure.Failure.TheVariants as failures;
-ghost use Rattle.hall_server.specs.declared.failure.Fault.TheVariants as faults;
+ghost use Rattle.hall_server.specs.declared.error.ServerError.TheVariants as failures;
+ghost use Rattle.hall_server.specs.declared.error.UnaskedError.TheVariants as faults;
 ghost use Rattle.commit_journal.specs.Kept.{IsFull};
 ghost use Rattle.epoch_journal.specs.Layout.{half_size};
 
 use crash_disk::Disk;
 use engine_store::{AskError, EngineStore};
-use hall_server::{Failure, Fault, Server};
+use hall_server::{Server, ServerError, UnaskedError};
 use std::alloc::Global;
 use teb_rules::history::History;
 use teb_rules::names::{Reply, Request, Session};
@@ -39,7 +39,12 @@ impl<C: Chains, D: Disk> Server for EngineStoreServer<C, D> {
     /// # Errors
     /// `Unasked` leaves the store as it was: `Stopped` is returned if and only if the disk has failed before, and `Full` only if the half
     /// that is current may not hold the commit. `Unsure` is returned if the disk fails at a commit.
-    fn serve(&mut self, alloc: Global, session: Session, request: Request) -> Result<Reply, Failure>
+    fn serve(
+        &mut self,
+        alloc: Global,
+        session: Session,
+        request: Request,
+    ) -> Result<Reply, ServerError>
         ensures reply { IsToldBy (told result) (answer self.old.store.engine.store self.old.store.engine.events session request).0 }
         ensures events { self.new.store.engine.events ≡ events_after (told result) self.old.store.engine.events (answer self.old.store.engine.store self.old.store.engine.events session request).1 }
         ensures store { self.new.store.engine.store ≡ self.old.store.engine.store }
@@ -53,10 +58,10 @@ impl<C: Chains, D: Disk> Server for EngineStoreServer<C, D> {
     {
         match self.store.ask(alloc, session, request) {
             Ok(reply) => Ok(reply),
-            Err(AskError::Stopped) => Err(Failure::Unasked(Fault::Stopped)),
-            Err(AskError::Full) => Err(Failure::Unasked(Fault::Full)),
-            Err(AskError::OutOfMemory) => Err(Failure::Unasked(Fault::OutOfMemory)),
-            Err(AskError::Unsure) => Err(Failure::Unsure(Reply::Committed)),
+            Err(AskError::Stopped) => Err(ServerError::Unasked(UnaskedError::Stopped)),
+            Err(AskError::Full) => Err(ServerError::Unasked(UnaskedError::Full)),
+            Err(AskError::OutOfMemory) => Err(ServerError::Unasked(UnaskedError::OutOfMemory)),
+            Err(AskError::Unsure) => Err(ServerError::Unsure(Reply::Committed)),
         }
     }
 

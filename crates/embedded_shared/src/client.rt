@@ -3,7 +3,7 @@
 ghost use Rattle.std.specs.Prelude.{◌≡◌};
 ghost use Rattle.shared_store.specs.Sharing.{IsSessionOf};
 
-use shared_store::{EpochServer, Fault, Store, StoreError, StoreReply, StoreSession};
+use shared_store::{EpochServer, Store, StoreError, StoreReply, StoreSession, UnaskedError};
 use std::alloc::Global;
 use std::sync::Wait;
 use std::thread;
@@ -172,7 +172,7 @@ fn ask<S: EpochServer, R: Wait + Clock>(
                 return Err(TransferError::Aborted);
             }
             Ok(StoreReply::Reply(Reply::Refused(Refusal::Full)))
-            | Err(StoreError::Unasked(Fault::Full)) => return Err(TransferError::Full),
+            | Err(StoreError::Unasked(UnaskedError::Full)) => return Err(TransferError::Full),
             Ok(StoreReply::Reply(Reply::Refused(why))) => return Err(TransferError::Refused(why)),
             Ok(StoreReply::Reply(Reply::Value(value))) => return Ok(value.unwrap_or(0)),
             Ok(StoreReply::Reply(_)) => return Ok(0),

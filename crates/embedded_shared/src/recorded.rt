@@ -10,7 +10,7 @@ ghost use Rattle.store_server.specs.Standings.{standing_of};
 use crash_disk::Renew;
 use epoch_journal::{EpochJournal, Group};
 use printed_run::printed_run;
-use shared_store::{EpochServer, Fault, Obstacle};
+use shared_store::{EpochServer, Obstacle, UnaskedError};
 use std::alloc::{AllocError, Global};
 use std::io::{self, Write};
 use store_server::StoreServer;
@@ -73,7 +73,12 @@ impl<D: Renew> EpochServer for Recorded<D> {
 
     ghost ending = { λ s. is_to_end s.server.is_full s.server.queue.left s.server.reserve (begun_count s.server.queue.engine.events) };
 
-    fn serve(&mut self, alloc: Global, session: Session, request: Request) -> Result<Reply, Fault> {
+    fn serve(
+        &mut self,
+        alloc: Global,
+        session: Session,
+        request: Request,
+    ) -> Result<Reply, UnaskedError> {
         self.server.serve(alloc, session, request)
     }
 
@@ -93,7 +98,7 @@ impl<D: Renew> EpochServer for Recorded<D> {
         self.server.take(alloc)
     }
 
-    fn write(log: &mut EpochJournal<D>, alloc: Global, batch: Group) -> Result<(), Fault> {
+    fn write(log: &mut EpochJournal<D>, alloc: Global, batch: Group) -> Result<(), UnaskedError> {
         StoreServer::<D>::write(log, alloc, batch)
     }
 
@@ -106,10 +111,14 @@ impl<D: Renew> EpochServer for Recorded<D> {
         self,
         log: EpochJournal<D>,
         alloc: Global,
-    ) -> (Self, EpochJournal<D>, Result<(), Fault>) {
+    ) -> (Self, EpochJournal<D>, Result<(), UnaskedError>) {
         let Recorded { server, mut runs } = self;
         let Ok(run) = next_run(alloc, &server, &mut runs) else {
-            return (Recorded { server, runs }, log, Err(Fault::OutOfMemory));
+            return (
+                Recorded { server, runs },
+                log,
+                Err(UnaskedError::OutOfMemory),
+            );
         };
         let (server, log, begun) = server.next_epoch(log, alloc);
         match begun {

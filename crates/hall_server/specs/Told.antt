@@ -2,11 +2,11 @@
 use Rattle.std.specs.Prelude.{◌≡◌, List, Option, Some, None, Result, Ok, Err}
 use Rattle.teb_rules.specs.declared.names.Reply.{Reply}
 use Rattle.teb_rules.specs.declared.history.Event.{Event}
-use Rattle.hall_server.specs.declared.failure.Failure.{Failure}
-use Rattle.hall_server.specs.declared.failure.Failure.TheVariants.{Unasked, Unsure}
+use Rattle.hall_server.specs.declared.error.ServerError.{ServerError}
+use Rattle.hall_server.specs.declared.error.ServerError.TheVariants.{Unasked, Unsure}
 
 -- the reply by which the history has the request, whether it was returned or not; none if nothing was asked
-abbrev pub told : Result Reply Failure → Option Reply
+abbrev pub told : Result Reply ServerError → Option Reply
 told (Ok r) = Some r
 told (Err (Unsure r)) = Some r
 told (Err (Unasked f)) = None

@@ -6,7 +6,7 @@
 //! | `serve` returns | The history | |
 //! |---|---|---|
 //! | `Ok(reply)` | has the request | the reply is the one of the rules |
-//! | `Err(Unasked(fault))` | is as it was | a [`Fault`]: an earlier failure of a device, no room for the commit, or out of memory |
+//! | `Err(Unasked(fault))` | is as it was | an [`UnaskedError`]: an earlier failure of a device, no room for the commit, or out of memory |
 //! | `Err(Unsure(reply))` | has the request | the device failed at it, so what was committed may be kept or not |
 //!
 //! **What is proved.** The clauses of [`Server`] are what a hall builds on: each reply and each history is that of `answer`,
@@ -16,8 +16,8 @@
 //! **Not claimed**: that a server ever answers `Ok`.
 #![tactic(auto)]
 
-mod failure;
+mod error;
 mod server;
 
-pub use failure::{Failure, Fault};
+pub use error::{ServerError, UnaskedError};
 pub use server::Server;

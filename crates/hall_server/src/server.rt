@@ -8,9 +8,9 @@ ghost use Rattle.teb_rules.specs.Setup.{Store};
 ghost use Rattle.teb_rules.specs.Answer.{answer};
 ghost use Rattle.teb_rules.specs.laws.Lawful.{Lawful};
 ghost use Rattle.hall_server.specs.Told.{events_after, told, IsToldBy};
-ghost use Rattle.hall_server.specs.declared.failure.Failure.TheVariants as failures;
+ghost use Rattle.hall_server.specs.declared.error.ServerError.TheVariants as failures;
 
-use crate::failure::Failure;
+use crate::error::ServerError;
 use std::alloc::Global;
 use teb_rules::history::History;
 use teb_rules::names::{Reply, Request, Session};
@@ -31,7 +31,12 @@ pub trait Server {
     /// # Errors
     /// `Unasked` leaves the store, the names and the history unchanged. `Unsure` has a reply that may be lost: the history has
     /// the request.
-    fn serve(&mut self, alloc: Global, session: Session, request: Request) -> Result<Reply, Failure>
+    fn serve(
+        &mut self,
+        alloc: Global,
+        session: Session,
+        request: Request,
+    ) -> Result<Reply, ServerError>
         ensures reply { IsToldBy (told result) (answer (store self.old) (events self.old) session request).0 }
         ensures events { events self.new ≡ events_after (told result) (events self.old) (answer (store self.old) (events self.old) session request).1 }
         ensures store { store self.new ≡ store self.old }

@@ -1,13 +1,13 @@
 //! The door of a hall, at which sessions sleep until they may ask.
 
 use crate::place::{Place, SharedPlace};
-use hall_server::Failure;
+use hall_server::ServerError;
 use std::hint;
 use std::sync::atomic::Ordering::SeqCst;
 use std::sync::atomic::{AtomicBool, AtomicU64};
 use std::sync::{Mutex, MutexGuard, Wait};
 use std::time::Duration;
-use teb_rules::names::{Reply, Request, Session};
+use teb_rules::names::{Reply, Request, SESSIONS, Session};
 
 /// The pauses between two looks at the door.
 const PAUSES: u32 = 4;
@@ -22,7 +22,7 @@ const LOOKS: u32 = 200;
 const RESTS: u64 = 3;
 
 /// How often a session rests at most.
-const MOST_RESTS: u64 = RESTS * 32;
+const MOST_RESTS: u64 = RESTS * SESSIONS as u64;
 
 /// How long a rest is, in microseconds.
 const REST: u64 = 300;
@@ -202,7 +202,7 @@ impl Door {
         &self,
         inside: MutexGuard<'_, ()>,
         session: Session,
-        answer: &Result<Reply, Failure>,
+        answer: &Result<Reply, ServerError>,
         live: usize,
     ) {
         let place = match answer {

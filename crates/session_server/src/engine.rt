@@ -1,7 +1,7 @@
 //! An engine as a server: it only fails if memory runs out.
 
 use engine_core::Engine;
-use hall_server::{Failure, Fault, Server};
+use hall_server::{Server, ServerError, UnaskedError};
 use std::alloc::Global;
 use teb_rules::history::History;
 use teb_rules::names::{Reply, Request, Session};
@@ -27,10 +27,10 @@ impl<C: Chains> Server for EngineServer<C> {
         _alloc: Global,
         session: Session,
         request: Request,
-    ) -> Result<Reply, Failure> {
+    ) -> Result<Reply, ServerError> {
         match self.engine.ready() {
             Ok(()) => Ok(self.engine.ask(session, request)),
-            Err(_) => Err(Failure::Unasked(Fault::OutOfMemory)),
+            Err(_) => Err(ServerError::Unasked(UnaskedError::OutOfMemory)),
         }
     }
 

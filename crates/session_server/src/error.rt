@@ -1,6 +1,6 @@
 //! Why a request was not asked, or has no reply.
 
-use hall_server::Fault;
+use hall_server::UnaskedError;
 use teb_rules::names::Reply;
 
 /// Why a request of a session at an engine was not asked.
@@ -17,7 +17,7 @@ pub enum ServeError {
     /// The pass has asked `MOST_ASKS` times. Nothing was asked.
     PassSpent,
     /// Nothing was asked.
-    Unasked(Fault),
+    Unasked(UnaskedError),
     /// The history has the request, with this reply, but a device has failed: what was committed may be kept or not.
     Unsure(Reply),
 }

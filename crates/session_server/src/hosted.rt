@@ -8,12 +8,12 @@ ghost use Rattle.teb_rules.specs.Answer.{answer};
 ghost use Rattle.teb_rules.specs.Run.{IsLegal, history_of};
 ghost use Rattle.teb_rules.specs.history.Positions.{upto};
 ghost use Rattle.hall_server.specs.Told.{IsToldBy, told};
-ghost use Rattle.hall_server.specs.declared.failure.Failure.TheVariants as failures;
+ghost use Rattle.hall_server.specs.declared.error.ServerError.TheVariants as failures;
 ghost use Rattle.session_server.specs.Finishes.{finish_word};
 ghost use Rattle.session_server.specs.Growth.{GrowsBy, own_of};
 
 use crate::outfit::Outfit;
-use hall_server::{Failure, Fault, Server};
+use hall_server::{Server, ServerError, UnaskedError};
 use std::alloc::Global;
 use teb_rules::names::{Entry, Reply, Request, Session};
 use turn_lock::Member;
@@ -65,7 +65,7 @@ impl<S: Server> Hosted<S> {
     }
 
     /// Asks, and keeps the entry of the request if the history has it.
-    pub(crate) fn ask(&mut self, session: Session, request: Request) -> Result<Reply, Failure>
+    pub(crate) fn ask(&mut self, session: Session, request: Request) -> Result<Reply, ServerError>
         ensures entries { self.new.entries.items ≡ self.old.entries.items ++ own_of session request (told result) }
         ensures answer { IsToldBy (told result) (answer (S.store self.old.server) (S.events self.old.server) session request).0 }
         ensures unsure { (r : TheReply) → IsErrOf result (failures.Unsure r) → S.unsure r }
@@ -75,7 +75,7 @@ impl<S: Server> Hosted<S> {
         ensures same { (S.store self.new.server ≡ S.store self.old.server) × (S.names self.new.server ≡ S.names self.old.server) }
     {
         if self.entries.reserve(1).is_err() {
-            return Err(Failure::Unasked(Fault::OutOfMemory));
+            return Err(ServerError::Unasked(UnaskedError::OutOfMemory));
         }
         let answer = self.server.serve(self.alloc, session, request);
         if let Some(reply) = reply_in(&answer) {
@@ -91,12 +91,12 @@ impl<S: Server> Hosted<S> {
 }
 
 /// Returns the reply with which the history has a request, if it has it.
-fn reply_in(answer: &Result<Reply, Failure>) -> Option<Reply>
+fn reply_in(answer: &Result<Reply, ServerError>) -> Option<Reply>
     ensures { result ≡ told answer.now }
 {
     match answer {
-        Ok(reply) | Err(Failure::Unsure(reply)) => Some(*reply),
-        Err(Failure::Unasked(_)) => None,
+        Ok(reply) | Err(ServerError::Unsure(reply)) => Some(*reply),
+        Err(ServerError::Unasked(_)) => None,
     }
 }
 

@@ -2,7 +2,7 @@
 
 ghost use Rattle.std.specs.Prelude.{◌≡◌, ◌↔◌, Err, IfOk, IsErrOf};
 ghost use Rattle.teb_rules.specs.declared.names.Reply.{Reply as TheReply};
-ghost use Rattle.hall_server.specs.declared.failure.Fault.{Fault as TheFault};
+ghost use Rattle.hall_server.specs.declared.error.UnaskedError.{UnaskedError as TheUnaskedError};
 ghost use Rattle.session_server.specs.Passes.{base_of, IsPassOf, Turned, Asked, Unasked};
 ghost use Rattle.session_server.specs.Waits.{WaitsAmong};
 ghost use Rattle.session_server.specs.declared.error.ServeError.TheVariants as errors;
@@ -11,7 +11,7 @@ use crate::error::ServeError;
 use crate::hall::HallOf;
 use crate::pass::{MOST_ASKS, PassOf};
 use crate::taking::take_turn;
-use hall_server::{Failure, Server};
+use hall_server::{Server, ServerError};
 use std::sync::Wait;
 use teb_rules::names::{MOST_TXNS, Reply, Request};
 
@@ -36,7 +36,7 @@ impl<S: Server> HallOf<S> {
         ensures waits { IfOk result (WaitsAmong MOST_TXNS) }
         ensures unsure { (r : TheReply) → IsErrOf result (errors.Unsure r) → Turned (base_of self.now).store pass.old pass.new × Asked pass.old pass.new request r }
         ensures doubted { (r : TheReply) → IsErrOf result (errors.Unsure r) → S.unsure r }
-        ensures unasked { (f : TheFault) → IsErrOf result (errors.Unasked f) → Turned (base_of self.now).store pass.old pass.new × Unasked pass.old pass.new }
+        ensures unasked { (f : TheUnaskedError) → IsErrOf result (errors.Unasked f) → Turned (base_of self.now).store pass.old pass.new × Unasked pass.old pass.new }
         ensures spent { IsErrOf result errors.PassSpent → pass.new ≡ pass.old }
         ensures when { (result ≡ Err errors.PassSpent) ↔ (pass.old.asks ≡ MOST_ASKS) }
     {
@@ -54,8 +54,8 @@ impl<S: Server> HallOf<S> {
         pass.asks += 1;
         match answer {
             Ok(reply) => Ok(reply),
-            Err(Failure::Unsure(reply)) => Err(ServeError::Unsure(reply)),
-            Err(Failure::Unasked(fault)) => Err(ServeError::Unasked(fault)),
+            Err(ServerError::Unsure(reply)) => Err(ServeError::Unsure(reply)),
+            Err(ServerError::Unasked(fault)) => Err(ServeError::Unasked(fault)),
         }
     }
 }

@@ -4,7 +4,7 @@ ghost use Rattle.std.specs.Prelude.{◌≡◌, ◌<◌, ◌∷◌, [], Some, IsE
 ghost use Rattle.teb_rules.specs.declared.names.Reply.{Reply as TheReply};
 ghost use Rattle.turn_lock.specs.Seats.{note_count, view_of, IsOf, IsOutside};
 ghost use Rattle.hall_server.specs.Told.{told};
-ghost use Rattle.hall_server.specs.declared.failure.Failure.TheVariants as failures;
+ghost use Rattle.hall_server.specs.declared.error.ServerError.TheVariants as failures;
 ghost use Rattle.session_server.specs.Growth.{own_of};
 ghost use Rattle.session_server.specs.Turning.{TakesTurn, SeesMore};
 ghost use Rattle.session_server.specs.Waits.{WaitsAmong};
@@ -12,7 +12,7 @@ ghost use Rattle.session_server.specs.Waits.{WaitsAmong};
 use crate::door::{Caller, Door};
 use crate::hosted::Hosted;
 use crate::published::publish_since;
-use hall_server::{Failure, Server};
+use hall_server::{Server, ServerError};
 use std::sync::Wait;
 use teb_rules::names::{MOST_TXNS, Reply, Request, Session};
 use turn_lock::{SeatOf, Turn};
@@ -25,7 +25,7 @@ pub(crate) fn take_turn<S: Server, R: Wait>(
     seat: &mut SeatOf<Hosted<S>>,
     session: Session,
     request: Request,
-) -> Result<Reply, Failure>
+) -> Result<Reply, ServerError>
     requires notes { note_count turn.now ≡ MOST_TXNS }
     requires seat { IsOf turn.now seat.old × IsOutside seat.old }
     requires turns { 0 < (view_of seat.old).turns }

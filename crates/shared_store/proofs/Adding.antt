@@ -8,7 +8,7 @@ use Rattle.shared_store.specs.declared.entry.LifeEntry.{LifeEntry}
 use Rattle.shared_store.specs.declared.entry.LifeEntry.TheVariants.{Asked, CommitsTaken, EpochEnded}
 use Rattle.shared_store.specs.declared.entry.TheConstants.{LOG_SEAT}
 use Rattle.shared_store.specs.Ending.{AddsNoCalls}
-use Rattle.shared_store.specs.declared.error.Fault.{Fault}
+use Rattle.shared_store.specs.declared.error.UnaskedError.{UnaskedError}
 use Rattle.shared_store.specs.declared.answer.Answer.{Answer}
 use Rattle.shared_store.specs.declared.answer.Answer.TheVariants as answer
 use Rattle.shared_store.specs.declared.reply.StoreReply.TheVariants.{Reply, Later, Ended}
@@ -36,20 +36,20 @@ adds_more n old mid new p q = record {
 }
 
 -- a request that the session makes for another session adds only an entry for it
-pub adds_for_other : (first : Stage) (by s : Session) (q : Request) (o : Result TheReply Fault) (old new : List LifeEntry) → s.0 ≢ by.0 → AddsResult first by s q o old new → AddsForOthers by.0 old new
+pub adds_for_other : (first : Stage) (by s : Session) (q : Request) (o : Result TheReply UnaskedError) (old new : List LifeEntry) → s.0 ≢ by.0 → AddsResult first by s q o old new → AddsForOthers by.0 old new
 adds_for_other first by s q (Ok r) old new o a = adds_one by.0 (Asked by s q a.short) old new (for_other by s q a.short o) a.is
 adds_for_other first by s q (Err f) old new o a = adds_nothing by.0 old new a
 
-module _ (first : Stage) (s : Session) (q : Request) (old mid new : List LifeEntry) (m : AddsForOthers s.0 old mid) (o : Result TheReply Fault) (a : AddsResult first s s q o mid new) where
+module _ (first : Stage) (s : Session) (q : Request) (old mid new : List LifeEntry) (m : AddsForOthers s.0 old mid) (o : Result TheReply UnaskedError) (a : AddsResult first s s q o mid new) where
   adds_call : (r : TheReply) → AddsAsked first s s q r mid new → AddsCall first s q r old new
   adds_call r a = record { before = mid; short = a.short; stage = a.stage; goes_on = m; is = a.is; leads = a.leads; reply = a.reply; short_of = a.short_of }
 
   -- a request that the session makes for itself adds a call
   pub adds_ok : (r : TheReply) (n : ℕ) → o ≡ Ok r → Adds first s q (answer.Reply (Reply r) n) old new
-  adds_ok r n e = adds_call r (subst (λ (p : Result TheReply Fault). AddsResult first s s q p mid new) e a)
+  adds_ok r n e = adds_call r (subst (λ (p : Result TheReply UnaskedError). AddsResult first s s q p mid new) e a)
 
-  pub adds_err : (f : Fault) → o ≡ Err f → AddsForOthers s.0 old new
-  adds_err f e = adds_more s.0 old mid new m (adds_nothing s.0 mid new (subst (λ (p : Result TheReply Fault). AddsResult first s s q p mid new) e a))
+  pub adds_err : (f : UnaskedError) → o ≡ Err f → AddsForOthers s.0 old new
+  adds_err f e = adds_more s.0 old mid new m (adds_nothing s.0 mid new (subst (λ (p : Result TheReply UnaskedError). AddsResult first s s q p mid new) e a))
 
 pub for_others_grow : (n : ℕ) (old new : List LifeEntry) → AddsForOthers n old new → GrowsBy n old new
 for_others_grow n old new m = record { more = m.more; is = m.is; mine = All_map (IsForOther n) (λ (e : LifeEntry). owner_of e ≡ n) m.more (λ e p. p.0) m.mine }
@@ -120,7 +120,7 @@ module _ (first : Stage) (by s : Session) (q : Request) (old new : List LifeEntr
   apart : s.0 ≢ by.0
   apart e = let k = seat in absurd (omega arith)
 
-  pub closes_for : (o : Result TheReply Fault) → AddsResult first by s q o old new → AddsNoCalls old new
+  pub closes_for : (o : Result TheReply UnaskedError) → AddsResult first by s q o old new → AddsNoCalls old new
   closes_for (Ok r) a = record {
     more = Asked by s q a.short ∷ [];
     is = a.is;
@@ -130,6 +130,6 @@ module _ (first : Stage) (by s : Session) (q : Request) (old new : List LifeEntr
   }
   closes_for (Err f) a = no_calls_same old new a
 
-pub asks_taken : (first : Stage) (by s : Session) (q : Request) (o : Result TheReply Fault) (old new : List LifeEntry) → AddsResult first by s q o old new → taken_of new ≡ taken_of old
+pub asks_taken : (first : Stage) (by s : Session) (q : Request) (o : Result TheReply UnaskedError) (old new : List LifeEntry) → AddsResult first by s q o old new → taken_of new ≡ taken_of old
 asks_taken first by s q (Ok r) old new a = ap taken_of a.is ∙ taken_behind old (Asked by s q a.short ∷ []) refl
 asks_taken first by s q (Err f) old new a = ap taken_of a

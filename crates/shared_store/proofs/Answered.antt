@@ -10,7 +10,7 @@ use Rattle.turn_lock.specs.Seats.{view_of}
 use Rattle.shared_store.specs.declared.entry.LifeEntry.{LifeEntry}
 use Rattle.shared_store.specs.declared.error.AskError.{AskError}
 use Rattle.shared_store.specs.declared.error.AskError.TheVariants.{Unasked, Unsure}
-use Rattle.shared_store.specs.declared.error.Fault.{Fault}
+use Rattle.shared_store.specs.declared.error.UnaskedError.{UnaskedError}
 use Rattle.shared_store.specs.declared.reply.StoreReply.{StoreReply}
 use Rattle.shared_store.specs.declared.reply.StoreReply.TheVariants.{Reply, Later, Ended}
 use Rattle.shared_store.specs.declared.server.EpochServer.{Ghosts}
@@ -41,7 +41,7 @@ module _ (b : Stage) (s : Session) (q : Request) (v w : View LifeEntry Stage) wh
   pub gains_unsure : (o : Result StoreReply AskError) → o ≡ Err Unsure → GainsFor o → SeesCall b s q Committed v w
   gains_unsure o e f = subst GainsFor e f
 
-  pub gains_unasked : (o : Result StoreReply AskError) (t : Fault) → o ≡ Err (Unasked t) → GainsFor o → SeesNoCall s.0 v w
+  pub gains_unasked : (o : Result StoreReply AskError) (t : UnaskedError) → o ≡ Err (Unasked t) → GainsFor o → SeesNoCall s.0 v w
   gains_unasked o t e f = subst GainsFor e f
 
 -- what holds of a commit that was made

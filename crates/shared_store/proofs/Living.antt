@@ -11,7 +11,7 @@ use Rattle.teb_rules.specs.Setup.{Store}
 use Rattle.commit_laws.specs.Commits.{commit_count}
 use Rattle.shared_store.specs.declared.entry.LifeEntry.{LifeEntry}
 use Rattle.shared_store.specs.declared.entry.LifeEntry.TheVariants.{Asked, CommitsTaken, EpochEnded, LogFailed}
-use Rattle.shared_store.specs.declared.error.Fault.{Fault}
+use Rattle.shared_store.specs.declared.error.UnaskedError.{UnaskedError}
 use Rattle.shared_store.specs.Beginning.{HasRoomFor}
 use Rattle.shared_store.specs.Commits.{commits_in}
 use Rattle.shared_store.specs.Stages.{Stage, IsNextEpoch, commits_at, first_stage}
@@ -161,22 +161,22 @@ module _ (w v : List Event → Type 0) (goes_on : (H : List Event) → w H → v
 
 -- a life extended by a result of the server
 module _ (first : Stage) (x y : Standing) (past : ℕ) (stopped : Bool) (commits : ℕ) (es : List LifeEntry) (l : IsLifeOf first (stage_of past stopped x) commits es) (s : Session) (q : Request)
-    (o : Result Reply Fault) (a : IsServed x y s q o) where
+    (o : Result Reply UnaskedError) (a : IsServed x y s q o) where
   pub served_life : (by : Session) (r : Reply) (short : Option ShortReply) (new : List LifeEntry) (count : ℕ) → stopped ≡ false → HasRoomFor x.events s q → o ≡ Ok r → IsShortOf r short
       → count ≡ commits + commits_in r
       → new ≡ es ++ Asked by s q short ∷ [] → IsLifeOf first (stage_of past stopped y) count new
   served_life by r short new count runs room e h c is = life_asked first x y past stopped commits es l by s q r short new count runs room (subst (IsServed x y s q) e a) h c is
 
-  pub unserved_life : (f : Fault) → o ≡ Err f → IsLifeOf first (stage_of past stopped y) commits es
+  pub unserved_life : (f : UnaskedError) → o ≡ Err f → IsLifeOf first (stage_of past stopped y) commits es
   unserved_life f e = life_same first x y past stopped commits es l (subst (IsServed x y s q) e a)
 
 module _ (w v : List Event → Type 0) (goes_on : (H : List Event) → w H → v H) (first : Stage) (x y : Standing) (past : ℕ) (stopped : Bool) (es : List LifeEntry)
-    (h : ∥ IsWaiting w first (stage_of past stopped x) es ∥₁) (s : Session) (q : Request) (o : Result Reply Fault) (a : IsServed x y s q o) where
+    (h : ∥ IsWaiting w first (stage_of past stopped x) es ∥₁) (s : Session) (q : Request) (o : Result Reply UnaskedError) (a : IsServed x y s q o) where
   pub served_waiting : (by : Session) (r : Reply) (short : Option ShortReply) (new : List LifeEntry) → o ≡ Ok r → new ≡ es ++ Asked by s q short ∷ []
       → ∥ IsWaiting v first (stage_of past stopped y) new ∥₁
   served_waiting by r short new e is = waiting_asked w v goes_on first x y past stopped es h by s q r short new (subst (IsServed x y s q) e a) is
 
-  pub unserved_waiting : (f : Fault) → o ≡ Err f → ∥ IsWaiting v first (stage_of past stopped y) es ∥₁
+  pub unserved_waiting : (f : UnaskedError) → o ≡ Err f → ∥ IsWaiting v first (stage_of past stopped y) es ∥₁
   unserved_waiting f e = waiting_same w v goes_on first x y past stopped es h (subst (IsServed x y s q) e a)
 
 -- a server that is as it was at first has a new life

@@ -2,8 +2,8 @@
 use Rattle.std.specs.Prelude.{◌≡◌, ℕ, ◌⊎◌, Bool, true, false, List, []}
 use Rattle.teb_rules.specs.declared.history.Event.{Event}
 use Rattle.teb_rules.specs.Setup.{Store}
-use Rattle.shared_store.specs.declared.error.Fault.{Fault}
-use Rattle.shared_store.specs.declared.error.Fault.TheVariants.{Stopped, Full, OutOfMemory}
+use Rattle.shared_store.specs.declared.error.UnaskedError.{UnaskedError}
+use Rattle.shared_store.specs.declared.error.UnaskedError.TheVariants.{Stopped, Full, OutOfMemory}
 use Rattle.shared_store.specs.declared.no_checkpoint.NoCheckpoint.{NoCheckpoint}
 use Rattle.shared_store.specs.declared.no_checkpoint.NoCheckpoint.TheVariants.{Held, Failed}
 use Rattle.shared_store.specs.Served.{IsDrained, IsObstacle, Standing}
@@ -15,7 +15,7 @@ pub record IsCheckpointed (keep : Store → List Event → ℕ → Type 0) (fail
   pub kept : ∥ keep x.store [] 0 ∥₁
 
 -- the log has failed; with another fault than Stopped it may run, and then nothing keeps the epoch from its end
-abbrev pub IsCause : Bool → List Event → Fault → Type 0
+abbrev pub IsCause : Bool → List Event → UnaskedError → Type 0
 IsCause failed H Stopped = failed ≡ true
 IsCause failed H Full = (failed ≡ true) ⊎ IsDrained H
 IsCause failed H OutOfMemory = (failed ≡ true) ⊎ IsDrained H

@@ -10,7 +10,7 @@ use Rattle.teb_rules.specs.history.Phases.{unfinished, aborted, held}
 use Rattle.teb_rules.specs.Answer.{answer}
 use Rattle.teb_rules.specs.Serializes.{final_table}
 use Rattle.teb_rules.specs.Setup.{Store}
-use Rattle.shared_store.specs.declared.error.Fault.{Fault}
+use Rattle.shared_store.specs.declared.error.UnaskedError.{UnaskedError}
 use Rattle.shared_store.specs.declared.server.Obstacle.{Obstacle}
 use Rattle.shared_store.specs.declared.server.Obstacle.TheVariants.{Unfinished, Untold}
 
@@ -25,7 +25,7 @@ pub record IsAnsweredBy (old new : Standing) (s : Session) (q : Request) (r : Re
   pub store : new.store ≡ old.store
   pub events : new.events ≡ (answer old.store old.events s q).1
 
-abbrev pub IsServed : Standing → Standing → Session → Request → Result Reply Fault → Type 0
+abbrev pub IsServed : Standing → Standing → Session → Request → Result Reply UnaskedError → Type 0
 IsServed old new s q (Ok r) = IsAnsweredBy old new s q r
 IsServed old new s q (Err f) = new ≡ old
 

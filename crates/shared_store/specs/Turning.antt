@@ -6,7 +6,7 @@ use Rattle.teb_rules.specs.declared.names.Session.{Session}
 use Rattle.short_reply.specs.declared.ShortReply.{ShortReply}
 use Rattle.shared_store.specs.declared.entry.LifeEntry.{LifeEntry}
 use Rattle.shared_store.specs.declared.entry.LifeEntry.TheVariants.{Asked}
-use Rattle.shared_store.specs.declared.error.Fault.{Fault}
+use Rattle.shared_store.specs.declared.error.UnaskedError.{UnaskedError}
 use Rattle.shared_store.specs.declared.answer.Answer.{Answer}
 use Rattle.shared_store.specs.declared.answer.Answer.TheVariants as answer
 use Rattle.shared_store.specs.declared.reply.StoreReply.TheVariants.{Reply, Later, Ended}
@@ -23,7 +23,7 @@ pub record AddsAsked (first : Stage) (by s : Session) (q : Request) (r : TheRepl
   pub short_of : IsShortOf r short
 
 -- what the result of a request adds
-abbrev pub AddsResult : Stage → Session → Session → Request → Result TheReply Fault → List LifeEntry → List LifeEntry → Type 0
+abbrev pub AddsResult : Stage → Session → Session → Request → Result TheReply UnaskedError → List LifeEntry → List LifeEntry → Type 0
 AddsResult first by s q (Ok r) old new = AddsAsked first by s q r old new
 AddsResult first by s q (Err f) old new = new ≡ old
 

@@ -1,6 +1,6 @@
 //! What a turn at the server answers.
 
-use crate::error::Fault;
+use crate::error::UnaskedError;
 use crate::reply::StoreReply;
 
 /// What a turn at the server answers.
@@ -11,5 +11,5 @@ pub(crate) enum Answer {
     /// Nothing was asked: the epoch is to end, and nothing keeps it from its end.
     Drained,
     /// Nothing was asked.
-    Unasked(Fault),
+    Unasked(UnaskedError),
 }

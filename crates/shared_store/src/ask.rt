@@ -3,7 +3,7 @@
 ghost use Rattle.std.specs.Prelude.{◌≡◌, ◌≢◌, ◌≤◌, ◌↔◌, Err, IfOk, OnOk, IsErrOf};
 ghost use Rattle.teb_rules.specs.declared.names.Reply.{Reply as TheReply};
 ghost use Rattle.teb_rules.specs.declared.names.Reply.TheVariants as replies;
-ghost use Rattle.shared_store.specs.declared.error.Fault.{Fault as TheFault};
+ghost use Rattle.shared_store.specs.declared.error.UnaskedError.{UnaskedError as TheUnaskedError};
 ghost use Rattle.shared_store.specs.declared.error.StoreError.TheVariants as errors;
 ghost use Rattle.shared_store.specs.declared.reply.StoreReply.TheVariants as store_replies;
 ghost use Rattle.shared_store.specs.Beginning.{IsBegin};
@@ -49,7 +49,7 @@ impl<S: EpochServer> StoreSession<S> {
         ensures no_reply { IfOk result (λ a. ((r : TheReply) → a ≢ store_replies.Reply r) → IsUnasked (base_of store.now) self.old self.new) }
         ensures later { IfOk result (λ a. a ≡ store_replies.Later → IsBegin request × WasFree (base_of store.now) self.old self.new) }
         ensures unsure { IsErrOf result errors.Unsure → IsAnswered (base_of store.now) self.old self.new request replies.Committed }
-        ensures unasked { (f : TheFault) → IsErrOf result (errors.Unasked f) → IsUnasked (base_of store.now) self.old self.new }
+        ensures unasked { (f : TheUnaskedError) → IsErrOf result (errors.Unasked f) → IsUnasked (base_of store.now) self.old self.new }
         ensures spent { IsErrOf result errors.Spent → self.new ≡ self.old }
         ensures when { (result ≡ Err errors.Spent) ↔ (self.old.asks ≡ MOST_ASKS) }
     {
@@ -81,7 +81,7 @@ impl<S: EpochServer> StoreSession<S> {
         ensures session { IsSessionOf store.now self.new × (self.new.session ≡ self.old.session) }
         ensures still { told self.new ≡ told self.old }
         ensures ended { OnOk result (IsUnasked (base_of store.now) self.old self.new) }
-        ensures unasked { (f : TheFault) → IsErrOf result (errors.Unasked f) → IsUnasked (base_of store.now) self.old self.new }
+        ensures unasked { (f : TheUnaskedError) → IsErrOf result (errors.Unasked f) → IsUnasked (base_of store.now) self.old self.new }
         ensures spent { IsErrOf result errors.Spent → self.new ≡ self.old }
         ensures when { (result ≡ Err errors.Spent) ↔ (self.old.asks ≡ MOST_ASKS) }
     {

@@ -11,7 +11,7 @@ ghost use Rattle.shared_store.specs.Totals.{total_in};
 ghost use Rattle.shared_store.specs.Turning.{IsPutOff};
 
 use crate::answer::Answer;
-use crate::error::{AskError, Fault};
+use crate::error::{AskError, UnaskedError};
 use crate::log_door::{Errand, Pass};
 use crate::reply::StoreReply;
 use crate::server::EpochServer;
@@ -112,7 +112,12 @@ impl<S: EpochServer> StoreSession<S> {
     }
 
     /// Ends the epoch at the log's turn, if it can be ended.
-    fn end_epoch<R: Wait>(&mut self, store: &Store<S>, rt: &R, alloc: Global) -> Result<(), Fault>
+    fn end_epoch<R: Wait>(
+        &mut self,
+        store: &Store<S>,
+        rt: &R,
+        alloc: Global,
+    ) -> Result<(), UnaskedError>
         requires session { IsSessionOf store.now self.old }
         requires turns { HasTurns 0 1 self.old }
         ensures session { IsSessionOf store.now self.new }

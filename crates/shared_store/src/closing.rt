@@ -11,7 +11,7 @@ ghost use Rattle.shared_store.specs.Stages.{first_stage};
 use crate::close::Closed;
 use crate::due_epoch::{NextEpoch, WrittenEpoch};
 use crate::entry::LOG_SEAT;
-use crate::error::Fault;
+use crate::error::UnaskedError;
 use crate::hosted::Hosted;
 use crate::no_checkpoint::NoCheckpoint;
 use crate::running::{FailedLog, RunningLog, WrittenLog};
@@ -74,7 +74,7 @@ impl<S: EpochServer> Hosted<S> {
             return LastEpoch {
                 hosted: self,
                 log,
-                checkpoint: Err(NoCheckpoint::Failed(Fault::Stopped)),
+                checkpoint: Err(NoCheckpoint::Failed(UnaskedError::Stopped)),
             };
         }
         let mut hosted = self;
@@ -87,7 +87,7 @@ impl<S: EpochServer> Hosted<S> {
     ///
     /// # Errors
     /// The first that a request has. The transactions of this session and of those with greater numbers go on.
-    fn end_all(&mut self, alloc: Global) -> Result<(), Fault>
+    fn end_all(&mut self, alloc: Global) -> Result<(), UnaskedError>
         ensures more { AddsNoCalls self.old.entries.items self.new.entries.items }
         ensures taken { taken_of self.new.entries.items ≡ taken_of self.old.entries.items }
         ensures first { self.new.first ≡ self.old.first }
@@ -105,7 +105,7 @@ impl<S: EpochServer> Hosted<S> {
     ///
     /// # Errors
     /// Nothing was asked.
-    fn end_at_close(&mut self, alloc: Global, session: Session) -> Result<Reply, Fault>
+    fn end_at_close(&mut self, alloc: Global, session: Session) -> Result<Reply, UnaskedError>
         requires { session.0 ≤ SESSIONS }
         ensures more { AddsNoCalls self.old.entries.items self.new.entries.items }
         ensures taken { taken_of self.new.entries.items ≡ taken_of self.old.entries.items }

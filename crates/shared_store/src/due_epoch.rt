@@ -11,7 +11,7 @@ ghost use Rattle.shared_store.specs.Stages.{first_stage};
 ghost use Rattle.shared_store.specs.Turning.{GrowsBy};
 
 use crate::entry::LifeEntry;
-use crate::error::Fault;
+use crate::error::UnaskedError;
 use crate::hosted::Hosted;
 use crate::running::{FailedLog, RunningLog, WrittenLog};
 use crate::server::EpochServer;
@@ -38,7 +38,7 @@ pub(crate) struct NextEpoch<S: EpochServer> {
     pub(crate) hosted: Hosted<S>,
     pub(crate) log: S::Log,
     /// An error if the last epoch goes on. The log may have failed then.
-    pub(crate) begun: Result<(), Fault>,
+    pub(crate) begun: Result<(), UnaskedError>,
     ghost kept: { ∥ IsKept (S.keeps log) (first_stage (S.standing hosted.first.value)) false hosted.commits hosted.entries.items ∥₁ },
     ghost taken: { taken_of hosted.entries.items ≡ hosted.entries.items },
 }
@@ -53,7 +53,7 @@ pub(crate) struct EndedEpoch<S: EpochServer> {
     /// True if the log has failed.
     pub(crate) failed: bool,
     /// An error if the epoch could not be ended. It goes on then.
-    pub(crate) ended: Result<(), Fault>,
+    pub(crate) ended: Result<(), UnaskedError>,
     ghost running: { S.failed log ≡ failed },
     ghost kept: { ∥ IsKept (S.keeps log) (first_stage (S.standing hosted.first.value)) failed total hosted.entries.items ∥₁ },
 }

@@ -3,12 +3,15 @@
 use thiserror::Error;
 
 /// Why nothing was asked.
-#[derive(Clone, Copy, Debug, PartialEq, Eq)]
-pub enum Fault {
+#[derive(Clone, Copy, Debug, PartialEq, Eq, Error)]
+pub enum UnaskedError {
     /// The log has failed earlier, or has spent its turns.
+    #[error("the log has failed")]
     Stopped,
     /// The commit, or the rows of the next epoch, do not fit the disk.
+    #[error("it does not fit the disk")]
     Full,
+    #[error("out of memory")]
     OutOfMemory,
 }
 
@@ -16,7 +19,7 @@ pub enum Fault {
 #[derive(Clone, Copy)]
 pub(crate) enum AskError {
     /// Nothing was asked.
-    Unasked(Fault),
+    Unasked(UnaskedError),
     /// The log failed before it kept the commit.
     Unsure,
 }
@@ -28,8 +31,8 @@ pub enum StoreError {
     #[error("the session has asked too often")]
     Spent,
     /// Nothing was asked.
-    #[error("not asked: {0:?}")]
-    Unasked(Fault),
+    #[error("not asked: {0}")]
+    Unasked(UnaskedError),
     /// The log failed before it kept the commit, or has spent its turns. A crash may keep the commit or not.
     #[error("the log failed before it kept the commit")]
     Unsure,

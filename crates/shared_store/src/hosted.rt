@@ -14,7 +14,7 @@ ghost use Rattle.shared_store.specs.Turning.{Adds, AddsForOthers, AddsResult, Gr
 
 use crate::answer::Answer;
 use crate::entry::LifeEntry;
-use crate::error::Fault;
+use crate::error::UnaskedError;
 use crate::first::First;
 use crate::origin::Origin;
 use crate::reply::StoreReply;
@@ -102,7 +102,7 @@ impl<S: EpochServer> Hosted<S> {
         ensures put_off { IsPutOff result → IsBegin request × (S.ending self.old.server ≡ true) × (holds (S.standing self.old.server).events session ≡ false) }
     {
         if self.stopped {
-            return Answer::Unasked(Fault::Stopped);
+            return Answer::Unasked(UnaskedError::Stopped);
         }
         if let Some(reply) = self.take_notice(session) {
             return Answer::Reply(StoreReply::Ended(reply), self.commits);
@@ -134,7 +134,7 @@ impl<S: EpochServer> Hosted<S> {
 
     /// Returns true if nothing keeps the epoch from its end. If only sessions do that were not told of an abort, other than this one, their
     /// transactions are ended for them.
-    fn drain(&mut self, alloc: Global, by: Session) -> Result<bool, Fault>
+    fn drain(&mut self, alloc: Global, by: Session) -> Result<bool, UnaskedError>
         ensures others { AddsForOthers by.0 self.old.entries.items self.new.entries.items }
         ensures first { self.new.first ≡ self.old.first }
     {
@@ -159,7 +159,7 @@ impl<S: EpochServer> Hosted<S> {
         alloc: Global,
         by: Session,
         session: Session,
-    ) -> Result<(), Fault>
+    ) -> Result<(), UnaskedError>
         requires other { session.0 ≢ by.0 }
         ensures others { AddsForOthers by.0 self.old.entries.items self.new.entries.items }
         ensures first { self.new.first ≡ self.old.first }
@@ -176,16 +176,16 @@ impl<S: EpochServer> Hosted<S> {
         by: Session,
         session: Session,
         request: Request,
-    ) -> Result<Reply, Fault>
+    ) -> Result<Reply, UnaskedError>
         requires room { HasRoomFor (S.standing self.old.server).events session request }
         ensures adds { AddsResult (first_stage (S.standing self.old.first.value)) by session request result self.old.entries.items self.new.entries.items }
         ensures first { self.new.first ≡ self.old.first }
     {
         if self.stopped {
-            return Err(Fault::Stopped);
+            return Err(UnaskedError::Stopped);
         }
         if self.commits == u64::MAX {
-            return Err(Fault::Full);
+            return Err(UnaskedError::Full);
         }
         match self.server.serve(alloc, session, request) {
             Ok(reply) => {

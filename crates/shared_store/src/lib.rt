@@ -76,7 +76,7 @@ mod writing;
 
 pub use close::{Closed, Life};
 pub use entry::{LOG_SEAT, LifeEntry};
-pub use error::{Fault, StoreError};
+pub use error::{StoreError, UnaskedError};
 pub use first::First;
 pub use hosted::Hosted;
 pub use keeper::Keeper;

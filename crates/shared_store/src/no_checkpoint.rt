@@ -1,6 +1,6 @@
 //! Why a store is closed without a checkpoint.
 
-use crate::error::Fault;
+use crate::error::UnaskedError;
 use crate::server::Obstacle;
 use thiserror::Error;
 
@@ -14,5 +14,5 @@ pub enum NoCheckpoint {
     /// `Stopped` if a call of the log has failed, at the closing or before. Else the last commits were not written, after which the log has
     /// failed, or the next epoch did not begin: `Full` if they or the rows do not fit, and `OutOfMemory`.
     #[error("no checkpoint could be written: {0:?}")]
-    Failed(Fault),
+    Failed(UnaskedError),
 }

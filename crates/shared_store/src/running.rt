@@ -7,7 +7,7 @@ ghost use Rattle.shared_store.specs.Hosting.{IsTaken};
 ghost use Rattle.shared_store.specs.Lives.{taken_of};
 ghost use Rattle.shared_store.specs.Stages.{first_stage};
 
-use crate::error::Fault;
+use crate::error::UnaskedError;
 use crate::hosted::Hosted;
 use crate::server::EpochServer;
 use std::alloc::Global;
@@ -40,7 +40,7 @@ pub(crate) struct FailedLog<S: EpochServer> {
     pub(crate) hosted: Hosted<S>,
     pub(crate) log: S::Log,
     pub(crate) total: u64,
-    pub(crate) fault: Fault,
+    pub(crate) fault: UnaskedError,
     ghost failed: { S.failed log ≡ true },
     ghost kept: { ∥ IsKept (S.keeps log) (first_stage (S.standing hosted.first.value)) true total hosted.entries.items ∥₁ },
     ghost taken: { taken_of hosted.entries.items ≡ hosted.entries.items },

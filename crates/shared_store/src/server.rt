@@ -6,11 +6,11 @@ ghost use Rattle.teb_rules.specs.declared.history.Event.{Event};
 ghost use Rattle.teb_rules.specs.history.Phases.{begun_count};
 ghost use Rattle.teb_rules.specs.Setup.{Store};
 ghost use Rattle.commit_laws.specs.Commits.{commit_count};
-ghost use Rattle.shared_store.specs.declared.error.Fault.TheVariants as faults;
+ghost use Rattle.shared_store.specs.declared.error.UnaskedError.TheVariants as faults;
 ghost use Rattle.shared_store.specs.Beginning.{holds};
 ghost use Rattle.shared_store.specs.Served.{IsBegun, IsDrained, IsObstacle, IsServed, Standing};
 
-use crate::error::Fault;
+use crate::error::UnaskedError;
 use std::alloc::Global;
 use teb_rules::names::{Reply, Request, Session};
 
@@ -54,7 +54,12 @@ pub trait EpochServer: Sized {
     ///
     /// # Errors
     /// Each leaves the server where it was. After `Full` the epoch is to end.
-    fn serve(&mut self, alloc: Global, session: Session, request: Request) -> Result<Reply, Fault>
+    fn serve(
+        &mut self,
+        alloc: Global,
+        session: Session,
+        request: Request,
+    ) -> Result<Reply, UnaskedError>
         ensures served { IsServed (standing self.old) (standing self.new) session request result }
         ensures waits { (H : List Event) → waits self.old H → waits self.new H }
         ensures full { IsErrOf result faults.Full → ending self.new ≡ true };
@@ -84,7 +89,7 @@ pub trait EpochServer: Sized {
     ///
     /// # Errors
     /// The log has failed, or there was no memory or room to write it. It is failed from then on.
-    fn write(log: &mut Self::Log, alloc: Global, batch: Self::Batch) -> Result<(), Fault>
+    fn write(log: &mut Self::Log, alloc: Global, batch: Self::Batch) -> Result<(), UnaskedError>
         requires running { failed log.old ≡ false }
         ensures kept { (X : Store) (H G : List Event) → keeps log.old X H (commit_count H) → brings batch X H G → OnOk result ((failed log.new ≡ false) × keeps log.new X G (commit_count G)) }
         ensures not_kept { (X : Store) (H G : List Event) → keeps log.old X H (commit_count H) → brings batch X H G → OnErr result ((failed log.new ≡ true) × keeps log.new X G (commit_count H)) };
@@ -97,7 +102,11 @@ pub trait EpochServer: Sized {
     ///
     /// # Errors
     /// The server is as it was, and the log keeps what it kept; it may have failed. After `Stopped` it has.
-    fn next_epoch(self, log: Self::Log, alloc: Global) -> (Self, Self::Log, Result<(), Fault>)
+    fn next_epoch(
+        self,
+        log: Self::Log,
+        alloc: Global,
+    ) -> (Self, Self::Log, Result<(), UnaskedError>)
         requires drained { IsDrained (standing self).events }
         requires taken { ∥ waits self (standing self).events ∥₁ }
         requires kept { ∥ keeps log (standing self).store (standing self).events (commit_count (standing self).events) ∥₁ }

@@ -5,7 +5,7 @@ ghost use Rattle.shared_store.specs.Keeping.{place_of, tells_in, IsLogOf};
 ghost use Rattle.shared_store.specs.Totals.{TellsBy};
 
 use crate::due_epoch::EndedEpoch;
-use crate::error::Fault;
+use crate::error::UnaskedError;
 use crate::hosted::Hosted;
 use crate::keeper::Keeper;
 use crate::kept::Kept;
@@ -59,13 +59,13 @@ impl<S: EpochServer> Keeper<S> {
         alloc: Global,
         turn: &Turn<Hosted<S>>,
         by: Session,
-    ) -> (Keeper<S>, Result<(), Fault>)
+    ) -> (Keeper<S>, Result<(), UnaskedError>)
         requires seat { IsLogOf turn.now self }
         ensures place { place_of result.0 ≡ place_of self }
         ensures tells { TellsBy by.0 (tells_in self) (tells_in result.0) }
     {
         if self.failed || self.turns == 0 {
-            return (self, Err(Fault::Stopped));
+            return (self, Err(UnaskedError::Stopped));
         }
         let Keeper {
             log,

@@ -3,8 +3,8 @@ use Rattle.std.proofs.Common.{◌≡◌, Err, refl, sym, ◌∙◌}
 use Rattle.std.specs.Prelude.{IsErrOf}
 use Rattle.engine_store.specs.declared.error.NextError.{NextError}
 use Rattle.engine_store.specs.declared.error.NextError.TheVariants as next
-use Rattle.shared_store.specs.declared.error.Fault.{Fault}
-use Rattle.shared_store.specs.declared.error.Fault.TheVariants.{Stopped, Full, OutOfMemory}
+use Rattle.shared_store.specs.declared.error.UnaskedError.{UnaskedError}
+use Rattle.shared_store.specs.declared.error.UnaskedError.TheVariants.{Stopped, Full, OutOfMemory}
 use Rattle.store_server.specs.Standings.{fault_of_next}
 
 not_memory : OutOfMemory ≡ Stopped → ⊥
@@ -23,5 +23,5 @@ only_disk next.DiskFault e = refl
 only_disk next.OutOfMemory e = absurd (not_memory e)
 
 -- Stopped is told of a failure of the disk alone
-pub disk_stops : {T : Type 0} (f : Fault) (why : NextError) → f ≡ fault_of_next why → IsErrOf {T = T} (Err f) Stopped → why ≡ next.DiskFault
+pub disk_stops : {T : Type 0} (f : UnaskedError) (why : NextError) → f ≡ fault_of_next why → IsErrOf {T = T} (Err f) Stopped → why ≡ next.DiskFault
 disk_stops f why is e = let z : f ≡ Stopped = cc in only_disk why (sym is ∙ z)

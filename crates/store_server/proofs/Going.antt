@@ -9,7 +9,7 @@ use Rattle.store_setup.specs.declared.Setup.{Setup}
 use Rattle.store_setup.specs.SetupView.{SetupView, setup_view}
 use Rattle.store_setup.specs.Stores.{store_of, store_of_view}
 use Rattle.tree_toml.specs.SetupText.{setup_of_text}
-use Rattle.tree_toml.specs.declared.fault.TreeText.{TreeText}
+use Rattle.tree_toml.specs.declared.fault.TreeTextError.{TreeTextError}
 use Rattle.engine_core.specs.EngineModel.{EngineModel}
 use Rattle.tree_switch.specs.Starts.{IsStarted}
 use Rattle.tree_switch.specs.Refusals as refusals
@@ -31,7 +31,7 @@ use Rattle.store_server.specs.Trees.{IsTreeOf}
 pub drained : (H : List Event) → refusals.IsDrained H → IsDrained H
 drained H d = record { finished = d.finished; told = λ s t h g. d.told s record { txn = t; holds = h; gone = g } }
 
-abbrev pub view_or : SetupView → Result SetupView TreeText → SetupView
+abbrev pub view_or : SetupView → Result SetupView TreeTextError → SetupView
 view_or v (Ok w) = w
 view_or v (Err e) = v
 

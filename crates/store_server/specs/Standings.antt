@@ -5,13 +5,13 @@ use Rattle.epoch_store.specs.declared.error.WriteError.TheVariants as write
 use Rattle.engine_store.specs.declared.error.NextError.{NextError}
 use Rattle.engine_store.specs.declared.error.NextError.TheVariants as next
 use Rattle.shared_store.specs.Served.{Standing}
-use Rattle.shared_store.specs.declared.error.Fault.{Fault}
-use Rattle.shared_store.specs.declared.error.Fault.TheVariants.{Stopped, Full, OutOfMemory}
+use Rattle.shared_store.specs.declared.error.UnaskedError.{UnaskedError}
+use Rattle.shared_store.specs.declared.error.UnaskedError.TheVariants.{Stopped, Full, OutOfMemory}
 
 abbrev pub standing_of : EngineModel → Standing
 standing_of e = record { store = e.store; events = e.events }
 
-abbrev pub fault_of_write : WriteError → Fault
+abbrev pub fault_of_write : WriteError → UnaskedError
 fault_of_write write.Full = Full
 fault_of_write write.DiskFault = Stopped
 fault_of_write write.OutOfMemory = OutOfMemory
@@ -27,7 +27,7 @@ IsOfLog next.DiskFault = Unit {0}
 IsOfLog next.OutOfMemory = Unit {0}
 
 -- how these are told: only DiskFault makes the log fail
-abbrev pub fault_of_next : NextError → Fault
+abbrev pub fault_of_next : NextError → UnaskedError
 fault_of_next next.Stopped = OutOfMemory
 fault_of_next (next.Again t) = OutOfMemory
 fault_of_next (next.Untold s) = OutOfMemory

@@ -3,14 +3,14 @@
 use engine_store::OpenError;
 use file_disk::OpenError as FileError;
 use thiserror::Error;
-use tree_toml::TreeText;
+use tree_toml::TreeTextError;
 
 /// Why a store is not opened.
 #[derive(Debug, Drop, Error)]
 pub enum OpenStoreError {
     /// The tree text is refused, or memory ran out while it was read.
     #[error("the tree text is wrong: {0:?}")]
-    BadTree(TreeText),
+    BadTree(TreeTextError),
     /// The disk is no store under the tables of the tree, a call of it failed, or memory is out.
     #[error("{0}")]
     Disk(OpenError),

@@ -18,7 +18,7 @@ use crash_disk::Renew;
 use engine_core::Engine;
 use engine_store::{AskError, EngineQueue, EngineStore, NextError, WriteError, write_commits};
 use epoch_journal::{EpochJournal, Group};
-use shared_store::{EpochServer, Fault, Obstacle};
+use shared_store::{EpochServer, Obstacle, UnaskedError};
 use std::alloc::{AllocError, Global};
 use std::marker::PhantomData;
 use store_setup::Setup;
@@ -95,14 +95,19 @@ impl<D: Renew> EpochServer for StoreServer<D> {
 
     ghost ending = { λ s. is_to_end s.is_full s.queue.left s.reserve (begun_count s.queue.engine.events) };
 
-    fn serve(&mut self, alloc: Global, session: Session, request: Request) -> Result<Reply, Fault> {
+    fn serve(
+        &mut self,
+        alloc: Global,
+        session: Session,
+        request: Request,
+    ) -> Result<Reply, UnaskedError> {
         match self.queue.ask(alloc, session, request) {
             Ok(reply) => Ok(reply),
             Err(AskError::Full) => {
                 self.is_full = true;
-                Err(Fault::Full)
+                Err(UnaskedError::Full)
             }
-            Err(AskError::OutOfMemory) => Err(Fault::OutOfMemory),
+            Err(AskError::OutOfMemory) => Err(UnaskedError::OutOfMemory),
             // A queue does not answer these.
             Err(AskError::Stopped | AskError::Unsure) => unreachable!(),
         }
@@ -129,7 +134,7 @@ impl<D: Renew> EpochServer for StoreServer<D> {
         self.queue.take(alloc)
     }
 
-    fn write(log: &mut EpochJournal<D>, alloc: Global, batch: Group) -> Result<(), Fault> {
+    fn write(log: &mut EpochJournal<D>, alloc: Global, batch: Group) -> Result<(), UnaskedError> {
         match write_commits(alloc, log, &batch) {
             Ok(()) => Ok(()),
             Err(error) => Err(unwritten(error)),
@@ -144,9 +149,9 @@ impl<D: Renew> EpochServer for StoreServer<D> {
         self,
         log: EpochJournal<D>,
         alloc: Global,
-    ) -> (Self, EpochJournal<D>, Result<(), Fault>) {
+    ) -> (Self, EpochJournal<D>, Result<(), UnaskedError>) {
         let Ok(setup) = setup_of(alloc, &self.tree) else {
-            return (self, log, Err(Fault::OutOfMemory));
+            return (self, log, Err(UnaskedError::OutOfMemory));
         };
         let StoreServer {
             queue,
@@ -189,24 +194,24 @@ fn setup_of(alloc: Global, tree: &[u8]) -> Result<Setup, AllocError>
     }
 }
 
-fn unwritten(error: WriteError) -> Fault
+fn unwritten(error: WriteError) -> UnaskedError
     ensures { result ≡ fault_of_write error }
 {
     match error {
-        WriteError::Full => Fault::Full,
-        WriteError::DiskFault => Fault::Stopped,
-        WriteError::OutOfMemory => Fault::OutOfMemory,
+        WriteError::Full => UnaskedError::Full,
+        WriteError::DiskFault => UnaskedError::Stopped,
+        WriteError::OutOfMemory => UnaskedError::OutOfMemory,
     }
 }
 
-fn not_begun(why: NextError) -> Fault
+fn not_begun(why: NextError) -> UnaskedError
     requires { IsOfLog why }
     ensures { result ≡ fault_of_next why }
 {
     match why {
-        NextError::DiskFault => Fault::Stopped,
-        NextError::Full => Fault::Full,
-        NextError::OutOfMemory => Fault::OutOfMemory,
+        NextError::DiskFault => UnaskedError::Stopped,
+        NextError::Full => UnaskedError::Full,
+        NextError::OutOfMemory => UnaskedError::OutOfMemory,
         NextError::Stopped | NextError::Again(_) | NextError::Untold(_) | NextError::OtherTables =>
             unreachable!(),
     }

@@ -1,6 +1,6 @@
 use Rattle.std.proofs.Common.{◌≡◌, List, [], ◌∷◌, ◌++◌, Err, append-nil, refl, sym, ap, subst, ◌∙◌}
-use Rattle.hall_server.specs.declared.failure.Failure.{Failure}
-use Rattle.hall_server.specs.declared.failure.Failure.TheVariants.{Unsure}
+use Rattle.hall_server.specs.declared.error.ServerError.{ServerError}
+use Rattle.hall_server.specs.declared.error.ServerError.TheVariants.{Unsure}
 use Rattle.hall_server.specs.Told.{told}
 use Rattle.session_server.specs.Growth.{own_of}
 use Rattle.session_server.specs.Turning.{SeesMore}
@@ -45,7 +45,7 @@ returns-in-Err-Unsure-clause-unsure g c r is =
     let h = t.base ∙ c.requires.pass.1 in
     let e : Entry = record { session = p.session; request = c.args.request; reply = r } in
     let same : c.in-Err-Unsure.reply ≡ r = cc is in
-    let m = subst (λ (f : Failure). SeesMore v w (own_of p.session c.args.request (told (Err f)))) (c.in-Err-Unsure.field-0-is ∙ ap Unsure same) (c.in-Err-Unsure.ensures {u = tt}).sees in (
+    let m = subst (λ (f : ServerError). SeesMore v w (own_of p.session c.args.request (told (Err f)))) (c.in-Err-Unsure.field-0-is ∙ ap Unsure same) (c.in-Err-Unsure.ensures {u = tt}).sees in (
       record {
         asks = refl;
         legal = t.legal b h;
@@ -68,7 +68,7 @@ returns-in-Err-Unasked-clause-unasked g c f is =
     let b = base_of c.args.self.now in
     let t = c.take_turn-answer.ensures.turn in
     let h = t.base ∙ c.requires.pass.1 in
-    let m = subst (λ (f : Failure). SeesMore v w (own_of p.session c.args.request (told (Err f)))) c.in-Err-Unasked.field-0-is (c.in-Err-Unasked.ensures {u = tt}).sees in (
+    let m = subst (λ (f : ServerError). SeesMore v w (own_of p.session c.args.request (told (Err f)))) c.in-Err-Unasked.field-0-is (c.in-Err-Unasked.ensures {u = tt}).sees in (
       record {
         asks = refl;
         legal = t.legal b h;

@@ -1,6 +1,6 @@
 use Rattle.std.proofs.Common.{Err, refl, sym, ap, subst, ◌∙◌}
 use Rattle.shared_store.specs.declared.entry.LifeEntry.TheVariants.{EpochEnded}
-use Rattle.shared_store.specs.declared.error.Fault.{Fault}
+use Rattle.shared_store.specs.declared.error.UnaskedError.{UnaskedError}
 use Rattle.shared_store.specs.Lives.{taken_of}
 use Rattle.shared_store.specs.Served.{IsDrained, Standing}
 use Rattle.shared_store.specs.Stages.{first_stage}
@@ -72,7 +72,7 @@ returns-in-Err-clause-begun g c =
     let f = c.in-Err.fault in
     let same = (on_err _ n.result.2 f c.in-Err.is n.ensures.same).0 in
     drained_cause (g.S.EpochServer.failed n.result.1) (g.S.EpochServer.standing n.result.0).events f (subst (λ (x : Standing). IsDrained x.events) (sym same) c.args.self.drained)
-    (λ e. n.ensures.stopped (c.in-Err.is ∙ ap (λ (x : Fault). Err x) e))
+    (λ e. n.ensures.stopped (c.in-Err.is ∙ ap (λ (x : UnaskedError). Err x) e))
 
 pub returns-clause-calls : goal.returns-clause-calls
 returns-clause-calls g c = no_calls_epoch_ended c.args.self.written.hosted.entries.items c.push.new.self.items c.push.ensures

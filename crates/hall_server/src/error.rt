@@ -4,7 +4,7 @@ use teb_rules::names::Reply;
 
 /// Why a request was not asked. Nothing has changed.
 #[derive(Clone, Copy, Debug, PartialEq, Eq)]
-pub enum Fault {
+pub enum UnaskedError {
     /// A device has failed at an earlier request.
     Stopped,
     /// There is no room for what the request may commit.
@@ -14,9 +14,9 @@ pub enum Fault {
 
 /// Why a server gives no reply.
 #[derive(Clone, Copy, Debug, PartialEq, Eq)]
-pub enum Failure {
+pub enum ServerError {
     /// Nothing was asked, and nothing has changed.
-    Unasked(Fault),
+    Unasked(UnaskedError),
     /// The history has the request, with this reply, but a device has failed: what was committed may be kept or not.
     Unsure(Reply),
 }
