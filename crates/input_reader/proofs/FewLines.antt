@@ -7,7 +7,7 @@ use Rattle.script_text.specs.Input.{parts_of}
 use Rattle.script_text.specs.Lines.{lines_of}
 use Rattle.script_text.specs.Grammar.{script_of}
 use Rattle.script_text.proofs.ParsedSessions.{script_few}
-use Rattle.tree_toml.specs.declared.fault.TreeText.{TreeText}
+use Rattle.tree_toml.specs.declared.fault.TreeTextError.{TreeTextError}
 use Rattle.store_setup.specs.SetupView.{SetupView}
 use Rattle.tree_toml.specs.SetupText.{setup_of_text}
 use Rattle.script_text.specs.declared.input.TheConstants.{MOST_BYTES, MOST_LINES}
@@ -27,7 +27,7 @@ module _ (task : Task) where
       omega (arith, script_few (names_of m) m.format 1 (lines_of text) ls s, few, ap (λ (t : Task). length t.lines) same)
   scripted m text (Err w) s few q = absurd (apart task (script_error w) (sym q))
 
-  set_up : (r : Result SetupView TreeText) (text : List ℕ) → length (lines_of text) ≤ MOST_LINES → task_under r text ≡ Ok task → length task.lines ≤ MOST_LINES
+  set_up : (r : Result SetupView TreeTextError) (text : List ℕ) → length (lines_of text) ≤ MOST_LINES → task_under r text ≡ Ok task → length task.lines ≤ MOST_LINES
   set_up (Ok m) text few q = scripted m text (script_of (names_of m) m.format text) refl few q
   set_up (Err w) text few q = absurd (apart task (tree_error w) (sym q))
 

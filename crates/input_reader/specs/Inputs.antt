@@ -6,8 +6,8 @@ use Rattle.script_text.specs.declared.error.ScriptError.TheVariants as script
 use Rattle.script_text.specs.Input.{parts_of}
 use Rattle.script_text.specs.Lines.{lines_of}
 use Rattle.script_text.specs.Grammar.{script_of}
-use Rattle.tree_toml.specs.declared.fault.TreeText.{TreeText}
-use Rattle.tree_toml.specs.declared.fault.TreeText.TheVariants as tree
+use Rattle.tree_toml.specs.declared.fault.TreeTextError.{TreeTextError}
+use Rattle.tree_toml.specs.declared.fault.TreeTextError.TheVariants as tree
 use Rattle.store_setup.specs.SetupView.{SetupView}
 use Rattle.tree_toml.specs.SetupText.{setup_of_text}
 use Rattle.script_text.specs.declared.input.TheConstants.{MOST_BYTES, MOST_LINES}
@@ -17,7 +17,7 @@ use Rattle.store_setup.specs.Stores.{names_of}
 use Rattle.input_reader.specs.Tasks.{Task}
 
 -- a fault of the tree part, and of the script part
-abbrev pub tree_error : TreeText → InputError
+abbrev pub tree_error : TreeTextError → InputError
 tree_error tree.OutOfMemory = OutOfMemory
 tree_error why = BadTree why
 
@@ -31,7 +31,7 @@ task_of m (Ok lines) = Ok (record { setup = m; lines = lines })
 task_of m (Err e) = Err (script_error e)
 
 -- a script under what the tree part is
-abbrev pub task_under : Result SetupView TreeText → List ℕ → Result Task InputError
+abbrev pub task_under : Result SetupView TreeTextError → List ℕ → Result Task InputError
 task_under (Ok m) text = task_of m (script_of (names_of m) m.format text)
 task_under (Err e) text = Err (tree_error e)
 

@@ -3,7 +3,7 @@
 use script_text::{LineWhy, ScriptError};
 use teb_io::ReadError;
 use thiserror::Error;
-use tree_toml::TreeText;
+use tree_toml::TreeTextError;
 
 /// Why an input is refused.
 #[derive(Clone, Copy, Debug, PartialEq, Eq, Drop, Error)]
@@ -18,7 +18,7 @@ pub enum InputError {
     NoSeparator,
     /// The first fault of the tree part.
     #[error("the tree part is bad: {0}")]
-    BadTree(TreeText),
+    BadTree(TreeTextError),
     /// The first bad line of the script, by its number from 1.
     #[error("line {number} is bad: {why:?}")]
     BadLine { number: u32, why: LineWhy },
@@ -41,15 +41,15 @@ impl From<ReadError> for InputError {
     }
 }
 
-impl From<TreeText> for InputError {
+impl From<TreeTextError> for InputError {
     ghost use Rattle.std.specs.Prelude.{◌≡◌};
     ghost use Rattle.input_reader.specs.Inputs.{tree_error};
 
     ghost from_gives = { λ why e. e ≡ tree_error why };
 
-    fn from(error: TreeText) -> InputError {
+    fn from(error: TreeTextError) -> InputError {
         match error {
-            TreeText::OutOfMemory => InputError::OutOfMemory,
+            TreeTextError::OutOfMemory => InputError::OutOfMemory,
             why => InputError::BadTree(why),
         }
     }

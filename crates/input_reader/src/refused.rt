@@ -7,7 +7,7 @@ use crate::InputError;
 use command_output::Output;
 use command_output::status::{BAD_SCRIPT, BAD_TREE, TOO_LONG};
 use std::alloc::{AllocError, Global};
-use tree_toml::{TreeText, put_fault};
+use tree_toml::{TreeTextError, put_fault};
 
 /// Returns the output for a fault: its status and its line. A read that failed has no line.
 ///
@@ -34,7 +34,7 @@ pub fn refusal(alloc: Global, error: &InputError) -> Result<Output, AllocError>
 }
 
 /// Returns the line of a fault of the tree part.
-fn bad_tree(alloc: Global, why: &TreeText) -> Result<Output, AllocError>
+fn bad_tree(alloc: Global, why: &TreeTextError) -> Result<Output, AllocError>
     ensures { IfOk result (λ o. o ≡ refusal (InputError.BadTree why.now)) }
 {
     let mut text = Vec::new(alloc);

@@ -3,7 +3,7 @@ use Rattle.std.specs.Prelude.{ℕ, ◌+◌, ◌/◌, ◌%◌, ◌==◌, nat_lt, 
 use Rattle.script_text.specs.Input.{parts_of}
 use Rattle.script_text.specs.Lines.{lines_of}
 use Rattle.script_text.specs.Grammar.{◌>>=◌, script_of}
-use Rattle.tree_toml.specs.declared.fault.TreeText.{TreeText}
+use Rattle.tree_toml.specs.declared.fault.TreeTextError.{TreeTextError}
 use Rattle.store_setup.specs.SetupView.{SetupView}
 use Rattle.tree_toml.specs.SetupText.{setup_of_text}
 use Rattle.tree_switch.specs.Names.{same_names}
@@ -19,7 +19,7 @@ use Rattle.phase_runner.specs.declared.error.PhaseWhy.TheVariants.{Many, Script,
 use Rattle.phase_runner.specs.Parts.{Pair, pairs_of}
 
 -- a fault of a part is one of the input
-abbrev pub tree_in : Result SetupView TreeText → Result SetupView PhaseError
+abbrev pub tree_in : Result SetupView TreeTextError → Result SetupView PhaseError
 tree_in (Ok m) = Ok m
 tree_in (Err e) = Err (BadInput (tree_error e))
 

@@ -4,7 +4,7 @@ use input_reader::InputError;
 use script_text::ScriptError;
 use std::alloc::{AllocError, AllocFailed};
 use thiserror::Error;
-use tree_toml::TreeText;
+use tree_toml::TreeTextError;
 
 /// Why the pairs of a tree part and a script part cannot be phases.
 #[derive(Clone, Copy, Debug, PartialEq, Eq)]
@@ -30,14 +30,14 @@ pub enum PhaseError {
     BadInput(InputError),
 }
 
-impl From<TreeText> for PhaseError {
+impl From<TreeTextError> for PhaseError {
     ghost use Rattle.std.specs.Prelude.{◌≡◌};
     ghost use Rattle.input_reader.specs.Inputs.{tree_error};
     ghost use Rattle.phase_runner.specs.declared.error.PhaseError.TheVariants.{BadInput};
 
     ghost from_gives = { λ why e. e ≡ BadInput (tree_error why) };
 
-    fn from(error: TreeText) -> PhaseError {
+    fn from(error: TreeTextError) -> PhaseError {
         PhaseError::BadInput(InputError::from(error))
     }
 }

@@ -6,7 +6,7 @@ use Rattle.serial_order.specs.Tables.{IsFinalRows}
 use Rattle.tree_switch.specs.Refusals.{AllFinished, IsLeast, IsUnfinished, IsUntold}
 use Rattle.tree_switch.specs.declared.error.SwitchError.{SwitchError}
 use Rattle.tree_switch.specs.declared.error.SwitchError.TheVariants.{Again, Untold, Tables, Rows, OutOfMemory}
-use Rattle.tree_toml.specs.declared.fault.TreeText.{TreeText}
+use Rattle.tree_toml.specs.declared.fault.TreeTextError.{TreeTextError}
 use Rattle.engine_core.specs.EngineModel.{EngineModel}
 use Rattle.tebaldi_c.specs.Shelves.{ShelfState}
 use Rattle.tebaldi_c.specs.declared.status.TheConstants.{OK, NOT_OPEN, BAD_TREE, OUT_OF_MEMORY, OTHER_TABLES, UNFINISHED, UNTOLD, STOPPED, NO_ROOM, WAITING}
@@ -20,7 +20,7 @@ pub record IsNext (m : SetupView) (before e : EngineModel) : Type 0 where
   pub rows : IsFinalRows before.store before.events e.store.rows
 
 -- a setup was read, and the store goes on under it
-abbrev pub IsNextOf : Result SetupView TreeText → EngineModel → EngineModel → Type 0
+abbrev pub IsNextOf : Result SetupView TreeTextError → EngineModel → EngineModel → Type 0
 IsNextOf (Ok m) before e = IsNext m before e
 IsNextOf (Err why) before e = ⊥
 
@@ -40,7 +40,7 @@ IsHindrance e tables Rows = ⊥
 IsHindrance e tables OutOfMemory = Unit {0}
 
 -- a setup was read, and its tables are not those of the store
-abbrev pub HasOtherTables : Result SetupView TreeText → EngineModel → Type 0
+abbrev pub HasOtherTables : Result SetupView TreeTextError → EngineModel → Type 0
 HasOtherTables (Ok m) e = m.tables ≢ e.names.tables
 HasOtherTables (Err why) e = ⊥
 

@@ -8,7 +8,7 @@ use Rattle.teb_rules.specs.Setup.{Store}
 use Rattle.teb_rules.specs.laws.Lawful.{Lawful}
 use Rattle.store_setup.specs.SetupView.{SetupView}
 use Rattle.store_setup.specs.Stores.{store_of_view, names_of}
-use Rattle.tree_toml.specs.declared.fault.TreeText.{TreeText}
+use Rattle.tree_toml.specs.declared.fault.TreeTextError.{TreeTextError}
 use Rattle.commit_laws.specs.Commits.{commit_count, rows_after}
 use Rattle.crash_disk.specs.Log.{LeftSince}
 use Rattle.epoch_journal.specs.Layout.{Layout, layout, half_size}
@@ -53,7 +53,7 @@ abbrev pub IfFiled : ShelfState → (Filed → Type 0) → Type 0
 IfFiled s P = IfFiledBy s.engine s.file P
 
 -- a setup was read, and the store is that of the bytes under it
-abbrev pub IsReopenedOf : Result SetupView TreeText → List ℕ → ShelfState → Type 0
+abbrev pub IsReopenedOf : Result SetupView TreeTextError → List ℕ → ShelfState → Type 0
 IsReopenedOf (Ok m) bytes s = IfFiled s (IsReopened m bytes)
 IsReopenedOf (Err why) bytes s = ⊥
 
@@ -67,7 +67,7 @@ IsFault m bytes errors.DiskFault = Unit {0}
 IsFault m bytes errors.OutOfMemory = Unit {0}
 
 -- a setup was read, and this is why the bytes are no store over its tables
-abbrev pub IsFaultOf : Result SetupView TreeText → List ℕ → OpenError → Type 0
+abbrev pub IsFaultOf : Result SetupView TreeTextError → List ℕ → OpenError → Type 0
 IsFaultOf (Ok m) bytes error = IsFault m bytes error
 IsFaultOf (Err why) bytes error = ⊥
 

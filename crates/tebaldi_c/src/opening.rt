@@ -2,7 +2,7 @@
 
 ghost use Rattle.std.specs.Prelude.{◌≡◌, ◌≢◌, ◌↔◌, Err, None, IsSome, IfOk, IfErr};
 ghost use Rattle.tree_toml.specs.SetupText.{setup_of_text};
-ghost use Rattle.tree_toml.specs.declared.fault.TreeText.TheVariants as faults;
+ghost use Rattle.tree_toml.specs.declared.fault.TreeTextError.TheVariants as faults;
 ghost use Rattle.tebaldi_c.specs.Asking.{IfOpen};
 ghost use Rattle.tebaldi_c.specs.Buffers.{IsTold};
 ghost use Rattle.tebaldi_c.specs.Opening.{IsNewOf, fault_line};
@@ -15,7 +15,7 @@ use crate::store::StoreHandle;
 use chain_pool::PooledChains;
 use engine_core::Engine;
 use std::alloc::Global;
-use tree_toml::{TreeText, put_fault, read_tree};
+use tree_toml::{TreeTextError, put_fault, read_tree};
 
 /// Room for this many events is made at the opening, so that their list need not move while they come. Room that is never written costs no
 /// memory.
@@ -63,7 +63,7 @@ pub extern "C" fn tebaldi_close(alloc: Global, store: &mut StoreHandle)
 }
 
 /// Returns the store of a tree text, with room for its first answers.
-fn shelf_of(alloc: Global, tree: &[u8]) -> Result<Box<Shelf>, TreeText>
+fn shelf_of(alloc: Global, tree: &[u8]) -> Result<Box<Shelf>, TreeTextError>
     ensures ok { IfOk result (λ b. IsNewOf (setup_of_text tree.now) b.value) }
     ensures err { IfErr result (λ why. why ≢ faults.OutOfMemory → setup_of_text tree.now ≡ Err why) }
 {
@@ -81,11 +81,11 @@ fn shelf_of(alloc: Global, tree: &[u8]) -> Result<Box<Shelf>, TreeText>
 }
 
 /// Copies as much of the line of a fault as fits, and returns the status.
-pub fn tell(alloc: Global, why: &TreeText, fault: &mut [u8], fault_len: &mut usize) -> u32
+pub fn tell(alloc: Global, why: &TreeTextError, fault: &mut [u8], fault_len: &mut usize) -> u32
     ensures told { result ≡ BAD_TREE → (why.now ≢ faults.OutOfMemory) × IsTold (fault_line (Err why.now)) fault.old fault.new fault_len.new }
     ensures other { result ≢ BAD_TREE → (result ≡ OUT_OF_MEMORY) × (fault.new ≡ fault.old) × (fault_len.new ≡ fault_len.old) }
 {
-    if matches!(why, TreeText::OutOfMemory) {
+    if matches!(why, TreeTextError::OutOfMemory) {
         return OUT_OF_MEMORY;
     }
     let mut line = Vec::new(alloc);

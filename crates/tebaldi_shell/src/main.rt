@@ -42,7 +42,7 @@ use std::env;
 use std::fs::File;
 use std::process::ExitCode;
 use teb_io::{ReadError, StdSink, StdSource, read_all};
-use tree_toml::{TreeText, read_tree};
+use tree_toml::{TreeTextError, read_tree};
 
 /// How many bytes the file can hold: two halves with some 2.4 million rows each.
 const CAPACITY: u64 = 67_108_864;
@@ -79,7 +79,7 @@ fn read_tree_text(rt: &HostRuntime, alloc: Global, path: &str) -> Result<Vec<u8>
 fn run_on(rt: &HostRuntime, alloc: Global, file: &str, tree: &[u8]) -> u8 {
     match read_tree(alloc, tree) {
         Ok(_setup) => run_under(rt, alloc, file, tree),
-        Err(TreeText::OutOfMemory) => OUT_OF_MEMORY,
+        Err(TreeTextError::OutOfMemory) => OUT_OF_MEMORY,
         Err(fault) => tree_fault(rt, alloc, &fault),
     }
 }

@@ -3,7 +3,7 @@
 use crate::status::BAD_TREE;
 use std::alloc::Global;
 use teb_io::{Sink, StdSink, write_whole};
-use tree_toml::{TreeText, put_fault};
+use tree_toml::{TreeTextError, put_fault};
 
 /// Says a line on standard error, and returns the status.
 pub fn say(rt: &HostRuntime, status: u8, text: &str) -> u8 {
@@ -15,7 +15,7 @@ pub fn say(rt: &HostRuntime, status: u8, text: &str) -> u8 {
 }
 
 /// Says the fault of a tree text, and returns the status.
-pub fn tree_fault(rt: &HostRuntime, alloc: Global, fault: &TreeText) -> u8 {
+pub fn tree_fault(rt: &HostRuntime, alloc: Global, fault: &TreeTextError) -> u8 {
     let mut errors = StdSink::new(rt.stderr());
     let mut text = Vec::new(alloc);
     if put_fault(&mut text, fault).is_ok() {

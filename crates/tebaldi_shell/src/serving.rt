@@ -18,13 +18,13 @@ use shell_runner::{Ended, Host, Shell, run};
 use std::alloc::Global;
 use store_setup::Setup;
 use teb_io::{Sink, Source};
-use tree_toml::{TreeText, read_tree};
+use tree_toml::{TreeTextError, read_tree};
 
 /// Why the shell does not start.
 #[derive(Drop)]
 pub enum StartError {
     /// The tree text is refused.
-    BadTree(TreeText),
+    BadTree(TreeTextError),
     /// The file has other tables than the tree.
     OtherTables,
     /// The file was made for another capacity.
@@ -62,7 +62,7 @@ pub fn serve<D: Renew + Drop, H: Host, S: Source, K: Sink>(
 {
     let setup = match read_tree(alloc, tree) {
         Ok(setup) => setup,
-        Err(TreeText::OutOfMemory) => return Err(StartError::OutOfMemory),
+        Err(TreeTextError::OutOfMemory) => return Err(StartError::OutOfMemory),
         Err(fault) => return Err(StartError::BadTree(fault)),
     };
     let format = setup.format;

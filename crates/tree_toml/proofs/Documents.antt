@@ -8,10 +8,10 @@ use Rattle.tree_toml.specs.Reading.{Answers}
 use Rattle.tree_toml.specs.SetupText.{setup_in, document_of, document_in}
 use Rattle.store_setup.specs.SetupView.{setup_view}
 use Rattle.store_setup.specs.declared.Setup.{Setup}
-use Rattle.tree_toml.specs.declared.fault.TreeText.{TreeText}
-use Rattle.tree_toml.specs.declared.fault.TreeText.TheVariants.{NotToml}
+use Rattle.tree_toml.specs.declared.fault.TreeTextError.{TreeTextError}
+use Rattle.tree_toml.specs.declared.fault.TreeTextError.TheVariants.{NotToml}
 
-pub table_is : (text : List ℕ) (ms : Members) (r : Result Setup TreeText) → IsUtf8 text → parse_document text ≡ Some ms → Answers setup_view r (setup_in ms) → Answers setup_view r (document_of text)
+pub table_is : (text : List ℕ) (ms : Members) (r : Result Setup TreeTextError) → IsUtf8 text → parse_document text ≡ Some ms → Answers setup_view r (setup_in ms) → Answers setup_view r (document_of text)
 unfolding document_of
 table_is text ms r utf8 parsed read = rw (is_utf8-from_IsUtf8 text utf8, parsed) read
 

@@ -21,7 +21,7 @@ use Rattle.tree_toml.specs.declared.fault.Key.TheVariants as key
 use Rattle.tree_toml.specs.declared.fault.Place.{Place}
 use Rattle.tree_toml.specs.declared.fault.FieldWhy.{FieldWhy}
 use Rattle.tree_toml.specs.declared.fault.FieldWhy.TheVariants.{Name, Repeated, Missing}
-use Rattle.tree_toml.specs.declared.fault.TreeText.{TreeText}
+use Rattle.tree_toml.specs.declared.fault.TreeTextError.{TreeTextError}
 use Rattle.tree_toml.proofs.Bound.{bind_ok, at_ok, ok_is, each_keeps, each_count}
 use Rattle.tree_toml.proofs.Profiles.{numbered_within}
 
@@ -114,7 +114,7 @@ batch_ok ms n e = let made = bind_ok (integer_at (codes "batch") ms) _ n e in ba
 pub record IsShare (s : Share) : Type 0 where
   pub parts : (1 ≤ s.parts) × (s.parts ≤ 16) × (s.part < s.parts)
 
-abbrev given_share : ℕ → Members → Result Share TreeText
+abbrev given_share : ℕ → Members → Result Share TreeTextError
 given_share i ms = at (place list.Nodes i key.Of) (parts_of ms) >>= (λ parts. at (place list.Nodes i key.Part) (part_of parts ms) >>= (λ part. Ok (record { part = part; parts = parts })))
 
 share_by : (i : ℕ) (ms : Members) (s : Share) (b : Bool) → (if b then Ok whole else given_share i ms) ≡ Ok s → IsShare s

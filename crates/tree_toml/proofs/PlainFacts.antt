@@ -9,7 +9,7 @@ use Rattle.store_setup.specs.declared.tree.rows.NodeRow.{NodeRow as Row}
 use Rattle.tree_toml.specs.Reading.{Answers}
 use Rattle.tree_toml.specs.SetupText.{grown, plain, plain_row}
 use Rattle.tree_toml.specs.Kept.{IsRow, AreRows}
-use Rattle.tree_toml.specs.declared.fault.TreeText.{TreeText}
+use Rattle.tree_toml.specs.declared.fault.TreeTextError.{TreeTextError}
 
 plain_kept : AreRows 1 (plain_row ∷ [])
 plain_kept = All-cons (IsRow 1) plain_row [] (record {
@@ -28,5 +28,5 @@ plain_grown : grown (plain_row ∷ []) 1 ≡ Ok plain.tree
 unfolding tree_fault homes below way climb
 plain_grown = refl
 
-pub grown_plain : (rows : List Row) (r : Result Grown TreeText) → rows_of rows ≡ plain_row ∷ [] → Answers (λ t. t) r (grown (rows_of rows) 1) → Answers (λ t. t) r (Ok plain.tree)
+pub grown_plain : (rows : List Row) (r : Result Grown TreeTextError) → rows_of rows ≡ plain_row ∷ [] → Answers (λ t. t) r (grown (rows_of rows) 1) → Answers (λ t. t) r (Ok plain.tree)
 grown_plain rows r is read = rw (is, plain_grown) at read

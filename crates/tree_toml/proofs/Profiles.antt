@@ -17,7 +17,7 @@ use Rattle.tree_toml.specs.Reading.{◌>>=◌, formed, at}
 use Rattle.tree_toml.specs.Fields.{numbered, as_list, array_at, counted}
 use Rattle.tree_toml.specs.Types.{step_table_at, step_from, step_in, steps_from, steps_in, steps_form, is_step}
 use Rattle.tree_toml.specs.declared.fault.Place.{Place}
-use Rattle.tree_toml.specs.declared.fault.TreeText.{TreeText}
+use Rattle.tree_toml.specs.declared.fault.TreeTextError.{TreeTextError}
 use Rattle.tree_toml.specs.declared.fault.FieldWhy.{FieldWhy}
 use Rattle.tree_toml.specs.declared.fault.FieldWhy.TheVariants.{Form, NoSuch}
 use Rattle.tree_toml.proofs.Bound.{bind_ok, at_ok, ok_is, each_keeps, each_count}
@@ -81,7 +81,7 @@ one_more p tables i seen d new e =
     let fresh = unrepeated (among made.0 seen) _ _ new made.2 in
     omega (arith, ap length fresh.1, length-append seen (made.0 ∷ []))
 
-filled : (b : Bool) (w : TreeText) (r : Result (List ℕ) TreeText) (step : List ℕ) → (if b then Err w else r) ≡ Ok step → (b ≡ false) × (r ≡ Ok step)
+filled : (b : Bool) (w : TreeTextError) (r : Result (List ℕ) TreeTextError) (step : List ℕ) → (if b then Err w else r) ≡ Ok step → (b ≡ false) × (r ≡ Ok step)
 filled true w r step e = absurd (cc)
 filled false w r step e = (refl, e)
 
@@ -194,7 +194,7 @@ given_form (Some es) ds e =
     rw (← inside, ← limits.2) (long, short)
 
 chosen : (p : Place) (tables : List (List ℕ)) (ms : Members) (o : Option (List Data)) (steps : List (List ℕ)) → 0 < length tables → steps_form ms ≡ Ok o
-    → elim o as (λ _. Result (List (List ℕ)) TreeText) [ None ↦ Ok (below (length tables) ∷ []) | Some ds ↦ steps_from p tables ds ] ≡ Ok steps → IsSteps (length tables) steps
+    → elim o as (λ _. Result (List (List ℕ)) TreeTextError) [ None ↦ Ok (below (length tables) ∷ []) | Some ds ↦ steps_from p tables ds ] ≡ Ok steps → IsSteps (length tables) steps
 unfolding form_of
 chosen p tables ms None steps some form e = rw (← ok_is _ _ steps refl e) (all_tables (length tables) some)
 chosen p tables ms (Some ds) steps some form e =

@@ -14,7 +14,7 @@ use Rattle.tree_toml.specs.Fields.{place, text_at, numbered, list_at, table_entr
 use Rattle.tree_toml.specs.Rows.{row_table, row_key, row_value, row_entry, row_placed, row_in, rows_in, rows_of}
 use Rattle.tree_toml.specs.declared.fault.ListName.TheVariants as list
 use Rattle.tree_toml.specs.declared.fault.Key.TheVariants as key
-use Rattle.tree_toml.specs.declared.fault.TreeText.{TreeText}
+use Rattle.tree_toml.specs.declared.fault.TreeTextError.{TreeTextError}
 use Rattle.tree_toml.proofs.Bound.{bind_ok, at_ok, ok_is, each_keeps, each_count}
 use Rattle.tree_toml.proofs.Profiles.{numbered_within}
 use Rattle.tree_toml.proofs.NodeFacts.{list_ok}
@@ -42,7 +42,7 @@ length_after (r ∷ rows) x v =
     ]
 
 -- the cell of a row that was placed had no row before
-placed_by : (o : Option ℤ) (w : TreeText) (rows new : List Row) → (if is_some o then Err w else Ok rows) ≡ Ok new → (o ≡ None) × (rows ≡ new)
+placed_by : (o : Option ℤ) (w : TreeTextError) (rows new : List Row) → (if is_some o then Err w else Ok rows) ≡ Ok new → (o ≡ None) × (rows ≡ new)
 placed_by None w rows new e = (refl, ok_is _ rows new refl e)
 placed_by (Some v) w rows new e = absurd (cc)
 

@@ -25,8 +25,8 @@ use Rattle.tree_toml.specs.Limits.{IsOfText}
 use Rattle.store_setup.specs.declared.Setup.{Setup as SetupRead}
 use Rattle.tree_toml.specs.declared.fault.ListName.TheVariants as list
 use Rattle.tree_toml.specs.declared.fault.Key.TheVariants as key
-use Rattle.tree_toml.specs.declared.fault.TreeText.{TreeText}
-use Rattle.tree_toml.specs.declared.fault.TreeText.TheVariants.{NotToml}
+use Rattle.tree_toml.specs.declared.fault.TreeTextError.{TreeTextError}
+use Rattle.tree_toml.specs.declared.fault.TreeTextError.TheVariants.{NotToml}
 use Rattle.tree_toml.proofs.Bound.{bind_ok, at_ok, ok_is}
 use Rattle.tree_toml.proofs.NameFacts.{tables_are_names, types_are_names, nodes_are_names}
 use Rattle.tree_toml.proofs.NodeFacts.{nodes_ok, within_ok}
@@ -74,7 +74,7 @@ plain_read = record {
 }
 
 grown_by : (rows : List NodeRow) (types : ℕ) (tree : Grown) (o : Option (ℕ × Fault))
-    → elim o as (λ _. Result Grown TreeText) [ None ↦ Ok (record { rows = rows; types = types }) | Some w ↦ Err (shape_text w.0 w.1) ] ≡ Ok tree → (o ≡ None)
+    → elim o as (λ _. Result Grown TreeTextError) [ None ↦ Ok (record { rows = rows; types = types }) | Some w ↦ Err (shape_text w.0 w.1) ] ≡ Ok tree → (o ≡ None)
     × (record { rows = rows; types = types } ≡ tree)
 grown_by rows types tree None e = (refl, ok_is _ _ tree refl e)
 grown_by rows types tree (Some w) e = absurd (cc)
@@ -117,7 +117,7 @@ lists_read format ms m known e =
       limits = record { few_types = typed.few; few_nodes = omega (arith, own.names, own.few); few_rows = starts.few; ascending = starts.ascending; format = known };
     })
 
-known_by : (b : Bool) (ms : Members) (w : TreeText) (m : SetupView) → (if b then at (at_top key.Format) (format_of ms) >>= (λ format. lists_in format ms) else Err w) ≡ Ok m → IsRead m
+known_by : (b : Bool) (ms : Members) (w : TreeTextError) (m : SetupView) → (if b then at (at_top key.Format) (format_of ms) >>= (λ format. lists_in format ms) else Err w) ≡ Ok m → IsRead m
 known_by true ms w m e =
     let format = bind_ok (at (at_top key.Format) (format_of ms)) _ m e in
     let read = bind_ok (integer_at (codes "format") ms >>= required) (within 1 3) format.0 (at_ok _ _ format.0 format.1) in
@@ -140,31 +140,31 @@ text_read false text m e = document_read (parse_document text) (is_utf8 text) m 
 
 -- what a text is does not depend on what it is read into
 module _ (text : List ℕ) where
-  read_from : (r : Result SetupRead TreeText) → Answers setup_view r (setup_of_text text) → IfOk r (λ s. IsRead (setup_view s))
+  read_from : (r : Result SetupRead TreeTextError) → Answers setup_view r (setup_of_text text) → IfOk r (λ s. IsRead (setup_view s))
   unfolding setup_of_text
   read_from (Ok s) read = text_read (is_blank text) text (setup_view s) read
   read_from (Err e) read = tt
 
-  pub whole_from : (r : Result SetupRead TreeText) → Answers setup_view r (setup_of_text text) → IfOk r (λ s. IsWhole (setup_view s))
+  pub whole_from : (r : Result SetupRead TreeTextError) → Answers setup_view r (setup_of_text text) → IfOk r (λ s. IsWhole (setup_view s))
   whole_from (Ok s) read = (read_from (Ok s) read).whole
   whole_from (Err e) read = tt
 
-  pub named_from : (r : Result SetupRead TreeText) → Answers setup_view r (setup_of_text text) → IfOk r (λ s. IsNamed (setup_view s))
+  pub named_from : (r : Result SetupRead TreeTextError) → Answers setup_view r (setup_of_text text) → IfOk r (λ s. IsNamed (setup_view s))
   named_from (Ok s) read = (read_from (Ok s) read).named
   named_from (Err e) read = tt
 
-  pub names_from : (r : Result SetupRead TreeText) → Answers setup_view r (setup_of_text text) → IfOk r (λ s. HasNames (setup_view s))
+  pub names_from : (r : Result SetupRead TreeTextError) → Answers setup_view r (setup_of_text text) → IfOk r (λ s. HasNames (setup_view s))
   names_from (Ok s) read = (read_from (Ok s) read).names
   names_from (Err e) read = tt
 
-  pub limits_from : (r : Result SetupRead TreeText) → Answers setup_view r (setup_of_text text) → IfOk r (λ s. IsOfText (setup_view s))
+  pub limits_from : (r : Result SetupRead TreeTextError) → Answers setup_view r (setup_of_text text) → IfOk r (λ s. IsOfText (setup_view s))
   limits_from (Ok s) read = (read_from (Ok s) read).limits
   limits_from (Err e) read = tt
 
-pub blank_is : (text : List ℕ) (r : Result SetupRead TreeText) → is_blank text ≡ true → Answers setup_view r (Ok plain) → Answers setup_view r (setup_of_text text)
+pub blank_is : (text : List ℕ) (r : Result SetupRead TreeTextError) → is_blank text ≡ true → Answers setup_view r (Ok plain) → Answers setup_view r (setup_of_text text)
 unfolding setup_of_text
 blank_is text r blank read = rw blank read
 
-pub document_is : (text : List ℕ) (r : Result SetupRead TreeText) → is_blank text ≡ false → Answers setup_view r (document_of text) → Answers setup_view r (setup_of_text text)
+pub document_is : (text : List ℕ) (r : Result SetupRead TreeTextError) → is_blank text ≡ false → Answers setup_view r (document_of text) → Answers setup_view r (setup_of_text text)
 unfolding setup_of_text
 document_is text r blank read = rw blank read

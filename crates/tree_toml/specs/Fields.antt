@@ -9,7 +9,7 @@ use Rattle.tree_toml.specs.declared.fault.Key.TheVariants as key
 use Rattle.tree_toml.specs.declared.fault.Place.{Place}
 use Rattle.tree_toml.specs.declared.fault.FieldWhy.{FieldWhy}
 use Rattle.tree_toml.specs.declared.fault.FieldWhy.TheVariants.{Unknown, Missing, Form, NoSuch, Range, Many}
-use Rattle.tree_toml.specs.declared.fault.TreeText.{TreeText}
+use Rattle.tree_toml.specs.declared.fault.TreeTextError.{TreeTextError}
 use Rattle.tree_toml.specs.Reading.{◌>>=◌, formed, fault_at, at, each}
 
 abbrev pub place : ListName → ℕ → Key → Place
@@ -67,7 +67,7 @@ abbrev pub is_entry : ListName → Data → Bool
 is_entry list.Tables d = is_some (as_str d)
 is_entry l d = is_some (as_table d)
 
-abbrev pub entry_form : ListName → ℕ → Unit {0} → Data → Result (Unit {0}) TreeText
+abbrev pub entry_form : ListName → ℕ → Unit {0} → Data → Result (Unit {0}) TreeTextError
 entry_form l i u d = if is_entry l d then Ok tt else Err (fault_at (place l i key.Whole) Form)
 
 -- a list that may have no entries may be left out
@@ -79,14 +79,14 @@ abbrev pub counted_at : List ℕ → ℕ → ℕ → Members → Result (List Da
 counted_at word least most ms = array_at word ms >>= counted least most
 
 -- the entries of a list: its own form, how many they are, and then the form of each
-abbrev pub list_at : ListName → List ℕ → Key → ℕ → ℕ → Members → Result (List Data) TreeText
+abbrev pub list_at : ListName → List ℕ → Key → ℕ → ℕ → Members → Result (List Data) TreeTextError
 list_at l word k least most ms =
     at (at_top k) (counted_at word least most ms) >>= (λ ds. each (entry_form l) 0 tt ds >>= (λ _. Ok ds))
 
 -- an entry that is a table of TOML
-abbrev pub entry : ListName → ℕ → Data → Result Members TreeText
+abbrev pub entry : ListName → ℕ → Data → Result Members TreeTextError
 entry l i d = at (place l i key.Whole) (formed (as_table d))
 
 -- and all of whose keys are known
-abbrev pub table_entry : ListName → ℕ → ℕ → Data → Result Members TreeText
+abbrev pub table_entry : ListName → ℕ → ℕ → Data → Result Members TreeTextError
 table_entry l format i d = entry l i d >>= (λ ms. if all_known l format ms then Ok ms else Err (fault_at (place l i key.Whole) Unknown))

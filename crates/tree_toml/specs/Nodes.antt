@@ -11,15 +11,15 @@ use Rattle.tree_toml.specs.declared.fault.Key.TheVariants as key
 use Rattle.tree_toml.specs.declared.fault.Place.{Place}
 use Rattle.tree_toml.specs.declared.fault.FieldWhy.{FieldWhy}
 use Rattle.tree_toml.specs.declared.fault.FieldWhy.TheVariants.{Form, NoSuch, Unknown}
-use Rattle.tree_toml.specs.declared.fault.TreeText.{TreeText}
+use Rattle.tree_toml.specs.declared.fault.TreeTextError.{TreeTextError}
 use Rattle.tree_toml.specs.Reading.{◌>>=◌, required, formed, at, each}
 use Rattle.tree_toml.specs.Fields.{place, text_at, integer_at, array_at, within, numbered, entry, list_at, table_entry}
 use Rattle.tree_toml.specs.Types.{name_in, are_texts}
 
-abbrev pub node_name : ℕ → ℕ → List (List ℕ) → Data → Result (List (List ℕ)) TreeText
+abbrev pub node_name : ℕ → ℕ → List (List ℕ) → Data → Result (List (List ℕ)) TreeTextError
 node_name format i names d = table_entry list.Nodes format i d >>= name_in (place list.Nodes i key.Name) names
 
-unfoldable pub node_names : ℕ → List Data → Result (List (List ℕ)) TreeText
+unfoldable pub node_names : ℕ → List Data → Result (List (List ℕ)) TreeTextError
 node_names format ds = each (node_name format) 0 [] ds
 
 abbrev pub control_named : List ℕ → Result ControlKind FieldWhy
@@ -52,14 +52,14 @@ texts_form ms = array_at (codes "types") ms >>= (λ o. elim o [ None ↦ Ok [] |
 abbrev pub member_of : List (List ℕ) → Data → Result ℕ FieldWhy
 member_of types d = formed (as_str d) >>= numbered types
 
-abbrev pub member_in : Place → List (List ℕ) → ℕ → List ℕ → Data → Result (List ℕ) TreeText
+abbrev pub member_in : Place → List (List ℕ) → ℕ → List ℕ → Data → Result (List ℕ) TreeTextError
 member_in p types i kinds d = at p (member_of types d) >>= (λ k. Ok (kinds ++ k ∷ []))
 
-unfoldable pub members_from : Place → List (List ℕ) → List Data → Result (List ℕ) TreeText
+unfoldable pub members_from : Place → List (List ℕ) → List Data → Result (List ℕ) TreeTextError
 members_from p types ds = each (member_in p types) 0 [] ds
 
 -- the types of a node
-abbrev pub members_in : Place → List (List ℕ) → Members → Result (List ℕ) TreeText
+abbrev pub members_in : Place → List (List ℕ) → Members → Result (List ℕ) TreeTextError
 members_in p types ms = at p (texts_form ms) >>= members_from p types
 
 abbrev pub batch_of : Members → Result ℕ FieldWhy
@@ -87,7 +87,7 @@ abbrev pub part_of : ℕ → Members → Result ℕ FieldWhy
 part_of parts ms = integer_at (codes "part") ms >>= required >>= within 0 (parts - 1)
 
 -- neither of the two keys is given, or both are
-abbrev pub share_of : ℕ → Members → Result Share TreeText
+abbrev pub share_of : ℕ → Members → Result Share TreeTextError
 share_of i ms =
     if not (has_key (codes "of") ms) && not (has_key (codes "part") ms) then Ok whole
     else at (place list.Nodes i key.Of) (parts_of ms) >>= (λ parts.
@@ -100,7 +100,7 @@ share_for [] s = whole
 share_for (k ∷ ks) s = s
 
 -- a row, behind its control and its parent
-unfoldable pub leaf_row : List (List ℕ) → ℕ → ControlKind → Option ℕ → Members → Result NodeRow TreeText
+unfoldable pub leaf_row : List (List ℕ) → ℕ → ControlKind → Option ℕ → Members → Result NodeRow TreeTextError
 leaf_row types i control parent ms =
     members_in (place list.Nodes i key.Members) types ms >>= (λ members.
     at (place list.Nodes i key.Batch) (batch_of ms) >>= (λ batch.
@@ -108,7 +108,7 @@ leaf_row types i control parent ms =
     share_of i ms >>= (λ share.
     Ok (record { control = control; parent = parent; types = members; batch = batch; ordered = ordered; part = (share_for members share).part; parts = (share_for members share).parts })))))
 
-unfoldable pub node_row : List (List ℕ) → List (List ℕ) → ℕ → Data → Result NodeRow TreeText
+unfoldable pub node_row : List (List ℕ) → List (List ℕ) → ℕ → Data → Result NodeRow TreeTextError
 node_row types nodes i d =
     entry list.Nodes i d >>= (λ ms.
     at (place list.Nodes i key.Control) (control_of ms) >>= (λ control.
@@ -116,10 +116,10 @@ node_row types nodes i d =
     at (place list.Nodes i key.Parent) (parent_of nodes ms) >>= (λ parent.
     leaf_row types i control parent ms))))
 
-abbrev pub node_in : List (List ℕ) → List (List ℕ) → ℕ → List NodeRow → Data → Result (List NodeRow) TreeText
+abbrev pub node_in : List (List ℕ) → List (List ℕ) → ℕ → List NodeRow → Data → Result (List NodeRow) TreeTextError
 node_in types nodes i rows d = node_row types nodes i d >>= (λ r. Ok (rows ++ r ∷ []))
 
-unfoldable pub node_rows : List (List ℕ) → List (List ℕ) → List Data → Result (List NodeRow) TreeText
+unfoldable pub node_rows : List (List ℕ) → List (List ℕ) → List Data → Result (List NodeRow) TreeTextError
 node_rows types nodes ds = each (node_in types nodes) 0 [] ds
 
 -- the names and the rows of the nodes
@@ -127,7 +127,7 @@ pub record NodeList : Type 0 where
   pub names : List (List ℕ)
   pub rows : List NodeRow
 
-abbrev pub nodes_of : ℕ → List (List ℕ) → Members → Result NodeList TreeText
+abbrev pub nodes_of : ℕ → List (List ℕ) → Members → Result NodeList TreeTextError
 nodes_of format types ms =
     list_at list.Nodes (codes "node") key.Nodes 1 64 ms >>= (λ ds.
     node_names format ds >>= (λ names.

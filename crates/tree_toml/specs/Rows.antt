@@ -9,7 +9,7 @@ use Rattle.tree_toml.specs.declared.fault.ListName.TheVariants as list
 use Rattle.tree_toml.specs.declared.fault.Key.TheVariants as key
 use Rattle.tree_toml.specs.declared.fault.FieldWhy.{FieldWhy}
 use Rattle.tree_toml.specs.declared.fault.FieldWhy.TheVariants.{Repeated}
-use Rattle.tree_toml.specs.declared.fault.TreeText.{TreeText}
+use Rattle.tree_toml.specs.declared.fault.TreeTextError.{TreeTextError}
 use Rattle.tree_toml.specs.Reading.{◌>>=◌, required, fault_at, at, each}
 use Rattle.tree_toml.specs.Fields.{place, text_at, integer_at, within, numbered, list_at, table_entry}
 
@@ -23,7 +23,7 @@ abbrev pub row_value : Members → Result ℤ FieldWhy
 row_value ms = integer_at (codes "value") ms >>= required
 
 -- a row: its cell and its value
-abbrev pub row_entry : List (List ℕ) → ℕ → Data → Result (Cell × ℤ) TreeText
+abbrev pub row_entry : List (List ℕ) → ℕ → Data → Result (Cell × ℤ) TreeTextError
 row_entry tables i d =
     table_entry list.Rows 1 i d >>= (λ ms.
     at (place list.Rows i key.Table) (row_table tables ms) >>= (λ table.
@@ -32,14 +32,14 @@ row_entry tables i d =
     Ok (record { table = table; key = k }, value)))))
 
 -- a row in front of the rows of later cells, where its cell has none
-abbrev pub row_placed : ℕ → List (Cell × ℤ) → Cell × ℤ → Result (List (Cell × ℤ)) TreeText
+abbrev pub row_placed : ℕ → List (Cell × ℤ) → Cell × ℤ → Result (List (Cell × ℤ)) TreeTextError
 row_placed i rows r = if is_some (row_of rows r.0) then Err (fault_at (place list.Rows i key.Value) Repeated) else Ok (insert_row rows r.0 r.1)
 
-abbrev pub row_in : List (List ℕ) → ℕ → List (Cell × ℤ) → Data → Result (List (Cell × ℤ)) TreeText
+abbrev pub row_in : List (List ℕ) → ℕ → List (Cell × ℤ) → Data → Result (List (Cell × ℤ)) TreeTextError
 row_in tables i rows d = row_entry tables i d >>= row_placed i rows
 
-unfoldable pub rows_in : List (List ℕ) → List Data → Result (List (Cell × ℤ)) TreeText
+unfoldable pub rows_in : List (List ℕ) → List Data → Result (List (Cell × ℤ)) TreeTextError
 rows_in tables ds = each (row_in tables) 0 [] ds
 
-abbrev pub rows_of : List (List ℕ) → Members → Result (List (Cell × ℤ)) TreeText
+abbrev pub rows_of : List (List ℕ) → Members → Result (List (Cell × ℤ)) TreeTextError
 rows_of tables ms = list_at list.Rows (codes "row") key.Rows 0 MOST_ROWS ms >>= rows_in tables

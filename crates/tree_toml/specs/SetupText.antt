@@ -15,8 +15,8 @@ use Rattle.toml.specs.Parse.{parse_document}
 use Rattle.tree_toml.specs.declared.fault.ListName.TheVariants as list
 use Rattle.tree_toml.specs.declared.fault.Key.TheVariants as key
 use Rattle.tree_toml.specs.declared.fault.FieldWhy.TheVariants.{Unknown}
-use Rattle.tree_toml.specs.declared.fault.TreeText.{TreeText}
-use Rattle.tree_toml.specs.declared.fault.TreeText.TheVariants.{NotToml, Shape, Misplaced}
+use Rattle.tree_toml.specs.declared.fault.TreeTextError.{TreeTextError}
+use Rattle.tree_toml.specs.declared.fault.TreeTextError.TheVariants.{NotToml, Shape, Misplaced}
 use Rattle.tree_toml.specs.Reading.{◌>>=◌, fault_at, at}
 use Rattle.tree_toml.specs.Fields.{at_top, all_known}
 use Rattle.tree_toml.specs.Tables.{format_of, tables_of}
@@ -24,7 +24,7 @@ use Rattle.tree_toml.specs.Types.{types_of}
 use Rattle.tree_toml.specs.Nodes.{nodes_of}
 use Rattle.tree_toml.specs.Rows.{rows_of}
 
-abbrev pub shape_text : ℕ → Fault → TreeText
+abbrev pub shape_text : ℕ → Fault → TreeTextError
 shape_text n fault.Root = Shape (record { 0 = n }) shape.Root
 shape_text n fault.Parent = Shape (record { 0 = n }) shape.Parent
 shape_text n fault.Depth = Shape (record { 0 = n }) shape.Depth
@@ -37,11 +37,11 @@ shape_text n fault.P2 = Misplaced (record { 0 = n }) rule.P2
 shape_text n fault.P3 = Misplaced (record { 0 = n }) rule.P3
 
 -- the tree of these rows, for so many types, or its first fault
-abbrev pub grown : List NodeRow → ℕ → Result Grown TreeText
+abbrev pub grown : List NodeRow → ℕ → Result Grown TreeTextError
 grown rows types = elim (tree_fault rows types) [ None ↦ Ok (record { rows = rows; types = types }) | Some w ↦ Err (shape_text w.0 w.1) ]
 
 -- the lists, one after another, and then the tree
-unfoldable pub lists_in : ℕ → Members → Result SetupView TreeText
+unfoldable pub lists_in : ℕ → Members → Result SetupView TreeTextError
 lists_in format ms =
     tables_of ms >>= (λ tables.
     types_of tables ms >>= (λ types.
@@ -50,7 +50,7 @@ lists_in format ms =
     grown nodes.rows (length types.names) >>= (λ tree.
     Ok (record { tables = tables; types = types.names; nodes = nodes.names; profiles = types.profiles; tree = tree; rows = rows; format = format }))))))
 
-unfoldable pub setup_in : Members → Result SetupView TreeText
+unfoldable pub setup_in : Members → Result SetupView TreeTextError
 setup_in ms =
     if all_known list.Top 1 ms then at (at_top key.Format) (format_of ms) >>= (λ format. lists_in format ms)
     else Err (fault_at (at_top key.Whole) Unknown)
@@ -77,13 +77,13 @@ plain = record {
   format = 1;
 }
 
-abbrev pub document_in : Option Members → Result SetupView TreeText
+abbrev pub document_in : Option Members → Result SetupView TreeTextError
 document_in None = Err NotToml
 document_in (Some ms) = setup_in ms
 
-unfoldable pub document_of : List ℕ → Result SetupView TreeText
+unfoldable pub document_of : List ℕ → Result SetupView TreeTextError
 document_of text = if is_utf8 text then document_in (parse_document text) else Err NotToml
 
 -- the setup that a text is, or why it is none
-unfoldable pub setup_of_text : List ℕ → Result SetupView TreeText
+unfoldable pub setup_of_text : List ℕ → Result SetupView TreeTextError
 setup_of_text text = if is_blank text then Ok plain else document_of text

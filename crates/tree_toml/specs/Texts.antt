@@ -10,8 +10,8 @@ use Rattle.tree_toml.specs.declared.fault.Key.{Key}
 use Rattle.tree_toml.specs.declared.fault.Key.TheVariants as key
 use Rattle.tree_toml.specs.declared.fault.FieldWhy.{FieldWhy}
 use Rattle.tree_toml.specs.declared.fault.FieldWhy.TheVariants as why
-use Rattle.tree_toml.specs.declared.fault.TreeText.{TreeText}
-use Rattle.tree_toml.specs.declared.fault.TreeText.TheVariants.{NotToml, Field, Shape, Misplaced, OutOfMemory}
+use Rattle.tree_toml.specs.declared.fault.TreeTextError.{TreeTextError}
+use Rattle.tree_toml.specs.declared.fault.TreeTextError.TheVariants.{NotToml, Field, Shape, Misplaced, OutOfMemory}
 use Rattle.tree_toml.specs.declared.text.Piece.{Piece}
 use Rattle.tree_toml.specs.declared.text.Piece.TheVariants as piece
 
@@ -96,7 +96,7 @@ field_parts list.Top i k w = codes "bad tree: " ∷ top_word k ∷ codes " " ∷
 field_parts l i k w = codes "bad tree: " ∷ entry_parts l i k (codes " " ∷ why_word w ∷ codes "\n" ∷ [])
 
 -- the line of a fault; out of memory has none
-abbrev pub fault_text : TreeText → List ℕ
+abbrev pub fault_text : TreeTextError → List ℕ
 fault_text NotToml = joined (codes "bad tree: not toml\n" ∷ [])
 fault_text (Field p w) = joined (field_parts p.list p.index p.key w)
 fault_text (Shape n w) = joined (codes "bad tree: node[" ∷ decimal n.0 ∷ codes "] shape " ∷ shape_word w ∷ codes "\n" ∷ [])

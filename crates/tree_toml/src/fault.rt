@@ -75,7 +75,7 @@ pub enum FieldWhy {
 
 /// Why a tree text was not read.
 #[derive(Clone, Copy, Debug, PartialEq, Eq, Drop, Error)]
-pub enum TreeText {
+pub enum TreeTextError {
     #[error("no TOML")]
     NotToml,
     #[error("{place:?}: {why:?}")]
@@ -88,32 +88,32 @@ pub enum TreeText {
     OutOfMemory,
 }
 
-impl From<AllocError> for TreeText {
-    ghost use Rattle.tree_toml.specs.declared.fault.TreeText.TheVariants.{OutOfMemory};
+impl From<AllocError> for TreeTextError {
+    ghost use Rattle.tree_toml.specs.declared.fault.TreeTextError.TheVariants.{OutOfMemory};
 
     ghost from_gives = { λ _ e. e ≡ OutOfMemory };
 
-    fn from(_error: AllocError) -> TreeText {
-        TreeText::OutOfMemory
+    fn from(_error: AllocError) -> TreeTextError {
+        TreeTextError::OutOfMemory
     }
 }
 
-impl<T: Drop> From<AllocFailed<T>> for TreeText {
-    ghost use Rattle.tree_toml.specs.declared.fault.TreeText.TheVariants.{OutOfMemory};
+impl<T: Drop> From<AllocFailed<T>> for TreeTextError {
+    ghost use Rattle.tree_toml.specs.declared.fault.TreeTextError.TheVariants.{OutOfMemory};
 
     ghost from_gives = { λ _ e. e ≡ OutOfMemory };
 
-    fn from(_error: AllocFailed<T>) -> TreeText {
-        TreeText::OutOfMemory
+    fn from(_error: AllocFailed<T>) -> TreeTextError {
+        TreeTextError::OutOfMemory
     }
 }
 
 impl Place {
     /// Returns this fault at the place.
-    pub(crate) fn fault(self, why: FieldWhy) -> TreeText
+    pub(crate) fn fault(self, why: FieldWhy) -> TreeTextError
         ensures { result ≡ fault_at self why }
     {
-        TreeText::Field { place: self, why }
+        TreeTextError::Field { place: self, why }
     }
 }
 
@@ -121,7 +121,7 @@ impl Place {
 ///
 /// # Errors
 /// `Field` with the place, and the reason that `read` has.
-pub fn at<T>(place: Place, read: Result<T, FieldWhy>) -> Result<T, TreeText>
+pub fn at<T>(place: Place, read: Result<T, FieldWhy>) -> Result<T, TreeTextError>
     ensures { result ≡ spec_at place read }
 {
     match read {

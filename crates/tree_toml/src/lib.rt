@@ -17,7 +17,7 @@
 //! ```
 //!
 //! - A *setup* is the value that a store is set up with: names, profiles, tree and starting rows (`store_setup`).
-//! - A *fault* ([`TreeText`]) is a text that is not TOML, a key or a value and what is wrong with it (`Field`), a list of nodes
+//! - A *fault* ([`TreeTextError`]) is a text that is not TOML, a key or a value and what is wrong with it (`Field`), a list of nodes
 //!   that is no tree (`Shape`), or a node that breaks a rule of placement (`Misplaced`).
 //! - A *blank* text is the plain setup: the table `t`, the type `any`, one leaf of locks, and no rows.
 //!
@@ -46,7 +46,7 @@ mod text;
 mod trees;
 mod types;
 
-pub use fault::{FieldWhy, Key, ListName, Place, TreeText};
+pub use fault::{FieldWhy, Key, ListName, Place, TreeTextError};
 pub use setup::read_tree;
 pub use store_setup::Setup;
 pub use text::put_fault;

@@ -6,7 +6,7 @@ ghost use Rattle.toml.specs.View.{view, table_view};
 ghost use Rattle.tree_toml.specs.Reading.{Gives, at as spec_at, each, formed};
 ghost use Rattle.tree_toml.specs.Fields.{is_entry as spec_is_entry, entry_form, counted_at as spec_counted_at, list_at as spec_list_at, table_entry as spec_table_entry};
 
-use crate::fault::{FieldWhy, Key, ListName, Place, TreeText, at};
+use crate::fault::{FieldWhy, Key, ListName, Place, TreeTextError, at};
 use crate::fields::{all_known, array_at, place};
 use toml::{Table, Value};
 
@@ -26,7 +26,7 @@ pub fn list_at<'a>(
     least: usize,
     most: usize,
     table: &'a Table,
-) -> Result<&'a [Value], TreeText>
+) -> Result<&'a [Value], TreeTextError>
     requires { most < 2 ^ 32 }
     ensures list { Gives (λ a. map view a.now) result (spec_list_at list word.now key least most (table_view table.now)) }
     ensures count { IfOk result (λ a. (least ≤ length a.now) × (length a.now ≤ most)) }
@@ -56,7 +56,7 @@ fn counted_at<'a>(
     }
 }
 
-fn check_entries(list: ListName, array: &[Value]) -> Result<(), TreeText>
+fn check_entries(list: ListName, array: &[Value]) -> Result<(), TreeTextError>
     requires { length array.now < 2 ^ 32 }
     ensures { Gives (λ u. u) result (each (entry_form list) 0 tt (map view array.now)) }
 {
@@ -88,7 +88,7 @@ pub fn table_entry(
     format: u8,
     index: u32,
     value: &Value,
-) -> Result<&Table, TreeText>
+) -> Result<&Table, TreeTextError>
     ensures { Gives (λ t. table_view t.now) result (spec_table_entry list format index (view value.now)) }
 {
     let whole = place(list, index, Key::Whole);
@@ -103,7 +103,7 @@ pub fn table_entry(
 ///
 /// # Errors
 /// `Field` at the place, with `Form`, if it is none.
-pub fn entry(place: Place, value: &Value) -> Result<&Table, TreeText>
+pub fn entry(place: Place, value: &Value) -> Result<&Table, TreeTextError>
     ensures { Gives (λ t. table_view t.now) result (spec_at place (formed (as_table (view value.now)))) }
 {
     match value.as_table() {

@@ -6,7 +6,7 @@ ghost use Rattle.store_setup.specs.tree.Grown.{kind_numbers};
 ghost use Rattle.tree_toml.specs.Reading.{Answers, Gives};
 ghost use Rattle.tree_toml.specs.Nodes.{texts_form as spec_texts_form, member_of, member_in, members_from, members_in};
 
-use crate::fault::{FieldWhy, Place, TreeText, at};
+use crate::fault::{FieldWhy, Place, TreeTextError, at};
 use crate::fields::{array_at, numbered};
 use crate::steps::are_texts;
 use std::alloc::Global;
@@ -23,7 +23,7 @@ pub fn read_members(
     place: Place,
     types: &Names,
     entry: &Table,
-) -> Result<Vec<Kind>, TreeText>
+) -> Result<Vec<Kind>, TreeTextError>
     ensures { Answers (λ v. kind_numbers v.items) result (members_in place types.now (table_view entry.now)) }
 {
     let array = at(place, texts_form(entry))?;
@@ -47,7 +47,7 @@ fn add_members(
     place: Place,
     types: &Names,
     array: &[Value],
-) -> Result<(), TreeText>
+) -> Result<(), TreeTextError>
     requires { members.old.items ≡ [] }
     ensures { Answers (λ _. kind_numbers members.new.items) result (members_from place types.now (map view array.now)) }
 {
@@ -63,7 +63,7 @@ fn add_member(
     place: Place,
     types: &Names,
     value: &Value,
-) -> Result<(), TreeText>
+) -> Result<(), TreeTextError>
     ensures { Answers (λ _. kind_numbers members.new.items) result (member_in place types.now 0 (kind_numbers members.old.items) (view value.now)) }
 {
     let kind = at(place, member(types, value))?;

@@ -6,7 +6,7 @@ ghost use Rattle.tree_toml.specs.Reading.{Answers, Gives, at as spec_at};
 ghost use Rattle.tree_toml.specs.Types.{name_in, name_text_of};
 ghost use Rattle.tree_toml.specs.Names.{named};
 
-use crate::fault::{FieldWhy, Place, TreeText, at};
+use crate::fault::{FieldWhy, Place, TreeTextError, at};
 use crate::fields::{required, text_at};
 use teb_rules::names::{Names, is_name};
 use toml::Table;
@@ -17,7 +17,7 @@ use toml::Table;
 /// `Field` at the place: `Name` if it is not a valid name, `Repeated` if it was given before. `OutOfMemory`: out of memory. The
 /// names are unchanged.
 #[tactic(auto, unfolding(crate::specs::Names::named))]
-pub fn add_name(names: &mut Names, place: Place, name: &str) -> Result<(), TreeText>
+pub fn add_name(names: &mut Names, place: Place, name: &str) -> Result<(), TreeTextError>
     requires { length names.old < 255 }
     ensures name { Answers (λ _. names.new) result (spec_at place (named names.old name.now)) }
     ensures count { OnOk result (length names.new ≡ length names.old + 1) }
@@ -37,7 +37,7 @@ pub fn add_name(names: &mut Names, place: Place, name: &str) -> Result<(), TreeT
 /// `Field` at the place: `Form` if the name is no text, `Missing` if there is none, or the reason of `add_name`. `OutOfMemory`:
 /// out of memory. The names are unchanged.
 #[tactic(auto, unfolding(crate::specs::Types::name_in))]
-pub fn add_entry_name(names: &mut Names, place: Place, entry: &Table) -> Result<(), TreeText>
+pub fn add_entry_name(names: &mut Names, place: Place, entry: &Table) -> Result<(), TreeTextError>
     requires { length names.old < 255 }
     ensures name { Answers (λ _. names.new) result (name_in place names.old (table_view entry.now)) }
     ensures count { OnOk result (length names.new ≡ length names.old + 1) }

@@ -7,7 +7,7 @@ ghost use Rattle.tree_toml.specs.Reading.{Answers};
 ghost use Rattle.tree_toml.specs.Nodes.{node_name, node_names, node_row, leaf_row, node_in, node_rows, nodes_of};
 ghost use Rattle.tree_toml.specs.Seen.{nodes_view};
 
-use crate::fault::{Key, ListName, TreeText, at};
+use crate::fault::{Key, ListName, TreeTextError, at};
 use crate::fields::place;
 use crate::lists::{MOST, entry, list_at, table_entry};
 use crate::members::read_members;
@@ -36,7 +36,7 @@ pub fn read_nodes(
     format: u8,
     types: &Names,
     table: &Table,
-) -> Result<Nodes, TreeText>
+) -> Result<Nodes, TreeTextError>
     ensures { Answers nodes_view result (nodes_of format types.now (table_view table.now)) }
 {
     let array = list_at(ListName::Nodes, "node", Key::Nodes, 1, MOST, table)?;
@@ -45,7 +45,7 @@ pub fn read_nodes(
     Ok(Nodes { names, rows })
 }
 
-fn read_names(alloc: Global, format: u8, array: &[Value]) -> Result<Names, TreeText>
+fn read_names(alloc: Global, format: u8, array: &[Value]) -> Result<Names, TreeTextError>
     requires { length array.now ≤ 64 }
     ensures { Answers (λ names. names) result (node_names format (map view array.now)) }
 {
@@ -54,7 +54,7 @@ fn read_names(alloc: Global, format: u8, array: &[Value]) -> Result<Names, TreeT
     Ok(names)
 }
 
-fn add_names(names: &mut Names, format: u8, array: &[Value]) -> Result<(), TreeText>
+fn add_names(names: &mut Names, format: u8, array: &[Value]) -> Result<(), TreeTextError>
     requires few { length array.now ≤ 64 }
     requires first { names.old ≡ [] }
     ensures { Answers (λ _. names.new) result (node_names format (map view array.now)) }
@@ -67,7 +67,7 @@ fn add_names(names: &mut Names, format: u8, array: &[Value]) -> Result<(), TreeT
     Ok(())
 }
 
-fn add_name(names: &mut Names, format: u8, index: u32, value: &Value) -> Result<(), TreeText>
+fn add_name(names: &mut Names, format: u8, index: u32, value: &Value) -> Result<(), TreeTextError>
     requires { length names.old < 255 }
     ensures name { Answers (λ _. names.new) result (node_name format index names.old (view value.now)) }
     ensures count { OnOk result (length names.new ≡ length names.old + 1) }
@@ -81,7 +81,7 @@ fn read_rows(
     types: &Names,
     nodes: &Names,
     array: &[Value],
-) -> Result<Vec<NodeRow>, TreeText>
+) -> Result<Vec<NodeRow>, TreeTextError>
     requires { length array.now ≤ 64 }
     ensures { Answers (λ v. rows_of v.items) result (node_rows types.now nodes.now (map view array.now)) }
 {
@@ -96,7 +96,7 @@ fn add_rows(
     types: &Names,
     nodes: &Names,
     array: &[Value],
-) -> Result<(), TreeText>
+) -> Result<(), TreeTextError>
     requires few { length array.now ≤ 64 }
     requires first { rows.old.items ≡ [] }
     ensures { Answers (λ _. rows_of rows.new.items) result (node_rows types.now nodes.now (map view array.now)) }
@@ -117,7 +117,7 @@ fn add_row(
     nodes: &Names,
     index: u32,
     value: &Value,
-) -> Result<(), TreeText>
+) -> Result<(), TreeTextError>
     ensures { Answers (λ _. rows_of rows.new.items) result (node_in types.now nodes.now index (rows_of rows.old.items) (view value.now)) }
 {
     let row = read_row(alloc, types, nodes, index, value)?;
@@ -132,7 +132,7 @@ fn read_row(
     nodes: &Names,
     index: u32,
     value: &Value,
-) -> Result<NodeRow, TreeText>
+) -> Result<NodeRow, TreeTextError>
     ensures { Answers row_of result (node_row types.now nodes.now index (view value.now)) }
 {
     let whole = place(ListName::Nodes, index, Key::Whole);
@@ -158,7 +158,7 @@ fn read_leaf(
     control: ControlKind,
     parent: Option<Node>,
     entry: &Table,
-) -> Result<NodeRow, TreeText>
+) -> Result<NodeRow, TreeTextError>
     ensures { Answers row_of result (leaf_row types.now index control (parent_number parent) (table_view entry.now)) }
 {
     let members = read_members(

@@ -7,7 +7,7 @@ ghost use Rattle.tree_toml.specs.Reading.{Answers};
 ghost use Rattle.tree_toml.specs.SetupText.{plain as spec_plain, plain_row};
 ghost use Rattle.store_setup.specs.SetupView.{setup_view};
 
-use crate::fault::TreeText;
+use crate::fault::TreeTextError;
 use crate::node_fields::USUAL_BATCH;
 use crate::trees::grow;
 use std::alloc::{AllocError, Global};
@@ -20,7 +20,7 @@ use teb_rules::names::{ControlKind, Kind, NameBook, Names, Rows, Table};
 ///
 /// # Errors
 /// `OutOfMemory`, and no other: out of memory.
-pub fn plain(alloc: Global) -> Result<Setup, TreeText>
+pub fn plain(alloc: Global) -> Result<Setup, TreeTextError>
     ensures { Answers setup_view result (Ok spec_plain) }
 {
     let tree = plain_tree(alloc)?;
@@ -44,7 +44,7 @@ fn plain_names(alloc: Global) -> Result<NameBook, AllocError>
     })
 }
 
-fn plain_tree(alloc: Global) -> Result<Tree, TreeText>
+fn plain_tree(alloc: Global) -> Result<Tree, TreeTextError>
     ensures { Answers (λ t. t) result (Ok (spec_plain.tree)) }
 {
     let rows = plain_rows(alloc)?;

@@ -5,7 +5,7 @@ ghost use Rattle.toml.specs.View.{view, table_view};
 ghost use Rattle.tree_toml.specs.Reading.{Answers};
 ghost use Rattle.tree_toml.specs.Rows.{row_table, row_key, row_value, row_entry, row_placed, row_in, rows_in, rows_of};
 
-use crate::fault::{FieldWhy, Key, ListName, TreeText, at};
+use crate::fault::{FieldWhy, Key, ListName, TreeTextError, at};
 use crate::fields::{integer_at, numbered, place, required, text_at, within};
 use crate::lists::{list_at, table_entry};
 use std::alloc::{AllocError, Global};
@@ -17,7 +17,7 @@ use toml::{Table, Value};
 ///
 /// # Errors
 /// `Field`, the first fault: of the list, then of each row; a cell that has a row is `Repeated`. `OutOfMemory`: out of memory.
-pub fn read_rows(alloc: Global, tables: &Names, table: &Table) -> Result<Rows, TreeText>
+pub fn read_rows(alloc: Global, tables: &Names, table: &Table) -> Result<Rows, TreeTextError>
     ensures { Answers (λ rows. rows) result (rows_of tables.now (table_view table.now)) }
 {
     let array = list_at(ListName::Rows, "row", Key::Rows, 0, MOST_ROWS, table)?;
@@ -36,7 +36,11 @@ fn sorted(alloc: Global, rows: &BTreeMap<Cell, i64>) -> Result<Rows, AllocError>
     Ok(Rows::from_sorted(list))
 }
 
-fn add_rows(rows: &mut BTreeMap<Cell, i64>, tables: &Names, array: &[Value]) -> Result<(), TreeText>
+fn add_rows(
+    rows: &mut BTreeMap<Cell, i64>,
+    tables: &Names,
+    array: &[Value],
+) -> Result<(), TreeTextError>
     requires few { length array.now < 2 ^ 32 }
     requires first { rows.old.entries ≡ [] }
     ensures { Answers (λ _. rows.new.entries) result (rows_in tables.now (map view array.now)) }
@@ -54,7 +58,7 @@ fn add_row(
     tables: &Names,
     index: u32,
     value: &Value,
-) -> Result<(), TreeText>
+) -> Result<(), TreeTextError>
     ensures { Answers (λ _. rows.new.entries) result (row_in tables.now index rows.old.entries (view value.now)) }
 {
     let (cell, value) = read_row(tables, index, value)?;
@@ -66,7 +70,7 @@ fn put_row(
     index: u32,
     cell: Cell,
     value: i64,
-) -> Result<(), TreeText>
+) -> Result<(), TreeTextError>
     ensures { Answers (λ _. rows.new.entries) result (row_placed index rows.old.entries (cell, value)) }
 {
     match rows.insert(cell, value)? {
@@ -75,7 +79,7 @@ fn put_row(
     }
 }
 
-fn read_row(tables: &Names, index: u32, value: &Value) -> Result<(Cell, i64), TreeText>
+fn read_row(tables: &Names, index: u32, value: &Value) -> Result<(Cell, i64), TreeTextError>
     ensures { result ≡ row_entry tables.now index (view value.now) }
 {
     let entry = table_entry(ListName::Rows, 1, index, value)?;

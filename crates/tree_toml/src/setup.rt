@@ -8,7 +8,7 @@ ghost use Rattle.store_setup.specs.Sound.{IsWhole, IsNamed, HasNames};
 ghost use Rattle.tree_toml.specs.Limits.{IsOfText};
 ghost use Rattle.store_setup.specs.SetupView.{setup_view};
 
-use crate::fault::{FieldWhy, Key, ListName, TreeText, at};
+use crate::fault::{FieldWhy, Key, ListName, TreeTextError, at};
 use crate::fields::{all_known, place};
 use crate::nodes::read_nodes;
 use crate::plain::plain;
@@ -27,7 +27,7 @@ use toml::Table;
 /// # Errors
 /// `NotToml` if the text is not UTF-8, or not TOML; else `Field`, the first fault of its keys and values; else `Shape` or
 /// `Misplaced`, the first fault of the nodes as a tree. `OutOfMemory` may come in place of each result.
-pub fn read_tree(alloc: Global, text: &[u8]) -> Result<Setup, TreeText>
+pub fn read_tree(alloc: Global, text: &[u8]) -> Result<Setup, TreeTextError>
     ensures setup { Answers setup_view result (setup_of_text text.now) }
     ensures whole { IfOk result (λ s. IsWhole (setup_view s)) }
     ensures named { IfOk result (λ s. IsNamed (setup_view s)) }
@@ -40,16 +40,16 @@ pub fn read_tree(alloc: Global, text: &[u8]) -> Result<Setup, TreeText>
     read_document(alloc, text)
 }
 
-fn read_document(alloc: Global, text: &[u8]) -> Result<Setup, TreeText>
+fn read_document(alloc: Global, text: &[u8]) -> Result<Setup, TreeTextError>
     ensures { Answers setup_view result (document_of text.now) }
 {
     match toml::table_from_slice(alloc, text) {
         Ok(table) => read_setup(alloc, &table),
         Err(error) => {
             if error.is_memory() {
-                Err(TreeText::OutOfMemory)
+                Err(TreeTextError::OutOfMemory)
             } else {
-                Err(TreeText::NotToml)
+                Err(TreeTextError::NotToml)
             }
         }
     }
@@ -68,7 +68,7 @@ fn is_blank_byte(b: u8) -> bool
 }
 
 #[tactic(auto, unfolding(crate::specs::SetupText::setup_in))]
-fn read_setup(alloc: Global, table: &Table) -> Result<Setup, TreeText>
+fn read_setup(alloc: Global, table: &Table) -> Result<Setup, TreeTextError>
     ensures { Answers setup_view result (setup_in (table_view table.now)) }
 {
     if !all_known(ListName::Top, 1, table) {
@@ -79,7 +79,7 @@ fn read_setup(alloc: Global, table: &Table) -> Result<Setup, TreeText>
 }
 
 #[tactic(auto, unfolding(crate::specs::SetupText::lists_in))]
-fn read_lists(alloc: Global, format: u8, table: &Table) -> Result<Setup, TreeText>
+fn read_lists(alloc: Global, format: u8, table: &Table) -> Result<Setup, TreeTextError>
     ensures { Answers setup_view result (lists_in format (table_view table.now)) }
 {
     let tables = read_tables(alloc, table)?;

@@ -7,7 +7,7 @@ ghost use Rattle.tree_toml.specs.Nodes.{parts_of, part_of, share_of, share_for a
 ghost use Rattle.tree_toml.specs.Reading.{Gives};
 ghost use Rattle.tree_toml.specs.Seen.{share_view};
 
-use crate::fault::{FieldWhy, Key, ListName, TreeText, at};
+use crate::fault::{FieldWhy, Key, ListName, TreeTextError, at};
 use crate::fields::{integer_at, place, required, within};
 use crate::node_fields::has_key;
 use teb_rules::names::Kind;
@@ -27,7 +27,7 @@ const WHOLE: Share = Share { part: 0, parts: 1 };
 /// # Errors
 /// `Field` at `of`, or else at `part`: `Form` if it is no integer, `Missing` if only the other is given, `Range` if it is outside
 /// its limits.
-pub fn read_share(index: u32, entry: &Table) -> Result<Share, TreeText>
+pub fn read_share(index: u32, entry: &Table) -> Result<Share, TreeTextError>
     ensures { Gives share_view result (share_of index (table_view entry.now)) }
 {
     if !has_key(entry, "of") && !has_key(entry, "part") {

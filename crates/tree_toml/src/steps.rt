@@ -9,7 +9,7 @@ ghost use Rattle.store_setup.specs.profile.Steps.{numbers_of, steps_of};
 ghost use Rattle.tree_toml.specs.Reading.{Answers, Gives, each};
 ghost use Rattle.tree_toml.specs.Types.{is_text as spec_is_text, is_step as spec_is_step, steps_form as spec_steps_form, step_table, step_table_at, step_from, step_in, steps_from, steps_in};
 
-use crate::fault::{FieldWhy, Place, TreeText, at};
+use crate::fault::{FieldWhy, Place, TreeTextError, at};
 use crate::fields::{array_at, as_list, numbered};
 use std::alloc::{AllocError, Global};
 use store_setup::profile::Profile;
@@ -27,7 +27,7 @@ pub fn read_profile(
     place: Place,
     tables: &Names,
     entry: &Table,
-) -> Result<Profile, TreeText>
+) -> Result<Profile, TreeTextError>
     requires { 0 < length tables.now }
     ensures { Answers (λ p. p) result (steps_in place tables.now (table_view entry.now)) }
 {
@@ -43,7 +43,7 @@ fn read_steps(
     place: Place,
     tables: &Names,
     entry: &Table,
-) -> Result<Vec<Vec<TableNumber>>, TreeText>
+) -> Result<Vec<Vec<TableNumber>>, TreeTextError>
     ensures { Answers (λ v. steps_of v.items) result (steps_in place tables.now (table_view entry.now)) }
 {
     let mut steps = Vec::new(alloc);
@@ -116,7 +116,7 @@ fn add_steps(
     place: Place,
     tables: &Names,
     array: &[Value],
-) -> Result<(), TreeText>
+) -> Result<(), TreeTextError>
     requires { steps_of steps.old.items ≡ [] }
     ensures { Answers (λ _. steps_of steps.new.items) result (steps_from place tables.now (map view array.now)) }
 {
@@ -133,7 +133,7 @@ fn add_step(
     place: Place,
     tables: &Names,
     value: &Value,
-) -> Result<(), TreeText>
+) -> Result<(), TreeTextError>
     ensures { Answers (λ _. steps_of steps.new.items) result (step_in place tables.now 0 (steps_of steps.old.items) (view value.now)) }
 {
     match as_list(value) {
@@ -152,7 +152,7 @@ fn read_step(
     place: Place,
     tables: &Names,
     array: &[Value],
-) -> Result<Vec<TableNumber>, TreeText>
+) -> Result<Vec<TableNumber>, TreeTextError>
     ensures { Answers (λ v. numbers_of v.items) result (step_from place tables.now (map view array.now)) }
 {
     if array.is_empty() {
@@ -168,7 +168,7 @@ fn add_tables(
     place: Place,
     tables: &Names,
     array: &[Value],
-) -> Result<(), TreeText>
+) -> Result<(), TreeTextError>
     requires { step.old.items ≡ [] }
     ensures { Answers (λ _. numbers_of step.new.items) result (each (step_table_at place tables.now) 0 [] (map view array.now)) }
 {
@@ -184,7 +184,7 @@ fn add_table(
     place: Place,
     tables: &Names,
     value: &Value,
-) -> Result<(), TreeText>
+) -> Result<(), TreeTextError>
     ensures { Answers (λ _. numbers_of step.new.items) result (step_table_at place tables.now 0 (numbers_of step.old.items) (view value.now)) }
 {
     let table = at(place, next_table(tables, step, value))?;

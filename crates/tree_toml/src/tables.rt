@@ -5,7 +5,7 @@ ghost use Rattle.toml.specs.View.{view, table_view};
 ghost use Rattle.tree_toml.specs.Reading.{Answers};
 ghost use Rattle.tree_toml.specs.Tables.{format_of, table_in, tables_in, tables_of};
 
-use crate::fault::{FieldWhy, Key, ListName, TreeText};
+use crate::fault::{FieldWhy, Key, ListName, TreeTextError};
 use crate::fields::{integer_at, place, required, within};
 use crate::lists::{MOST, list_at};
 use crate::names::add_name;
@@ -28,7 +28,7 @@ pub fn read_format(table: &Table) -> Result<u8, FieldWhy>
 ///
 /// # Errors
 /// `Field`, the first fault: of the list, then of each name. `OutOfMemory`: out of memory.
-pub fn read_tables(alloc: Global, table: &Table) -> Result<Names, TreeText>
+pub fn read_tables(alloc: Global, table: &Table) -> Result<Names, TreeTextError>
     ensures tables { Answers (λ names. names) result (tables_of (table_view table.now)) }
     ensures few { IfOk result (λ names. (0 < length names) × (length names ≤ 64)) }
 {
@@ -38,7 +38,7 @@ pub fn read_tables(alloc: Global, table: &Table) -> Result<Names, TreeText>
     Ok(names)
 }
 
-fn add_tables(names: &mut Names, array: &[Value]) -> Result<(), TreeText>
+fn add_tables(names: &mut Names, array: &[Value]) -> Result<(), TreeTextError>
     requires few { length array.now ≤ 64 }
     requires first { names.old ≡ [] }
     ensures tables { Answers (λ _. names.new) result (tables_in (map view array.now)) }
@@ -52,7 +52,7 @@ fn add_tables(names: &mut Names, array: &[Value]) -> Result<(), TreeText>
     Ok(())
 }
 
-fn add_table(names: &mut Names, index: u32, value: &Value) -> Result<(), TreeText>
+fn add_table(names: &mut Names, index: u32, value: &Value) -> Result<(), TreeTextError>
     requires { length names.old < 255 }
     ensures name { Answers (λ _. names.new) result (table_in index names.old (view value.now)) }
     ensures count { OnOk result (length names.new ≡ length names.old + 1) }

@@ -3,7 +3,7 @@
 ghost use Rattle.std.specs.Prelude.{◌≡◌, ◌++◌, is_ok, if◌then◌else◌};
 ghost use Rattle.tree_toml.specs.Texts.{piece_text, pieces_text, joined, field_parts, fault_text, list_word as spec_list_word, key_word as spec_key_word, top_word as spec_top_word, dot_word as spec_dot_word, why_word as spec_why_word, shape_word as spec_shape_word, rule_word as spec_rule_word};
 
-use crate::fault::{FieldWhy, Key, ListName, Place, TreeText};
+use crate::fault::{FieldWhy, Key, ListName, Place, TreeTextError};
 use itoa::Buffer;
 use std::alloc::AllocError;
 use store_setup::tree::{Rule, ShapeWhy};
@@ -19,13 +19,13 @@ pub enum Piece<'a> {
 ///
 /// # Errors
 /// `AllocError`: out of memory. Nothing is appended.
-pub fn put_fault(out: &mut Vec<u8>, fault: &TreeText) -> Result<(), AllocError>
+pub fn put_fault(out: &mut Vec<u8>, fault: &TreeTextError) -> Result<(), AllocError>
     ensures { out.new.items ≡ (if is_ok result then out.old.items ++ fault_text fault.now else out.old.items) }
 {
     match fault {
-        TreeText::NotToml => put_pieces(out, &[Piece::Text("bad tree: not toml\n")]),
-        TreeText::Field { place, why } => put_field(out, *place, *why),
-        TreeText::Shape { node, why } => put_pieces(
+        TreeTextError::NotToml => put_pieces(out, &[Piece::Text("bad tree: not toml\n")]),
+        TreeTextError::Field { place, why } => put_field(out, *place, *why),
+        TreeTextError::Shape { node, why } => put_pieces(
             out,
             &[
                 Piece::Text("bad tree: node["),
@@ -35,7 +35,7 @@ pub fn put_fault(out: &mut Vec<u8>, fault: &TreeText) -> Result<(), AllocError>
                 Piece::Text("\n"),
             ],
         ),
-        TreeText::Misplaced { node, rule } => put_pieces(
+        TreeTextError::Misplaced { node, rule } => put_pieces(
             out,
             &[
                 Piece::Text("bad tree: node["),
@@ -45,7 +45,7 @@ pub fn put_fault(out: &mut Vec<u8>, fault: &TreeText) -> Result<(), AllocError>
                 Piece::Text("\n"),
             ],
         ),
-        TreeText::OutOfMemory => Ok(()),
+        TreeTextError::OutOfMemory => Ok(()),
     }
 }
 

@@ -6,7 +6,7 @@ ghost use Rattle.tree_toml.specs.Reading.{Answers};
 ghost use Rattle.tree_toml.specs.SetupText.{grown};
 ghost use Rattle.tree_toml.specs.Kept.{AreRows};
 
-use crate::fault::TreeText;
+use crate::fault::TreeTextError;
 use std::alloc::Global;
 use store_setup::tree::{NodeRow, Tree, TreeError};
 
@@ -14,7 +14,7 @@ use store_setup::tree::{NodeRow, Tree, TreeError};
 ///
 /// # Errors
 /// `Shape` or `Misplaced`: the first fault of the rows, as `Tree::build` says. `OutOfMemory`: out of memory.
-pub fn grow(alloc: Global, rows: Vec<NodeRow>, types: u8) -> Result<Tree, TreeText>
+pub fn grow(alloc: Global, rows: Vec<NodeRow>, types: u8) -> Result<Tree, TreeTextError>
     requires rows { AreRows types (rows_of rows.items) }
     requires some { 0 < length rows.items }
     requires few { length rows.items ≤ 64 }
@@ -22,8 +22,8 @@ pub fn grow(alloc: Global, rows: Vec<NodeRow>, types: u8) -> Result<Tree, TreeTe
 {
     match Tree::build(alloc, rows, types) {
         Ok(tree) => Ok(tree),
-        Err(TreeError::Shape { node, why }) => Err(TreeText::Shape { node, why }),
-        Err(TreeError::Misplaced { node, rule }) => Err(TreeText::Misplaced { node, rule }),
-        Err(TreeError::OutOfMemory) => Err(TreeText::OutOfMemory),
+        Err(TreeError::Shape { node, why }) => Err(TreeTextError::Shape { node, why }),
+        Err(TreeError::Misplaced { node, rule }) => Err(TreeTextError::Misplaced { node, rule }),
+        Err(TreeError::OutOfMemory) => Err(TreeTextError::OutOfMemory),
     }
 }

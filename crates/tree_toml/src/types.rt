@@ -6,7 +6,7 @@ ghost use Rattle.tree_toml.specs.Reading.{Answers};
 ghost use Rattle.tree_toml.specs.Types.{no_types, type_in, types_in, types_of};
 ghost use Rattle.tree_toml.specs.Seen.{types_view};
 
-use crate::fault::{Key, ListName, TreeText};
+use crate::fault::{Key, ListName, TreeTextError};
 use crate::fields::place;
 use crate::lists::{MOST, list_at, table_entry};
 use crate::names::add_entry_name;
@@ -27,7 +27,7 @@ pub struct Types {
 ///
 /// # Errors
 /// `Field`, the first fault: of the list, then of each type. `OutOfMemory`: out of memory.
-pub fn read_types(alloc: Global, tables: &Names, table: &Table) -> Result<Types, TreeText>
+pub fn read_types(alloc: Global, tables: &Names, table: &Table) -> Result<Types, TreeTextError>
     requires { 0 < length tables.now }
     ensures types { Answers types_view result (types_of tables.now (table_view table.now)) }
     ensures few { IfOk result (λ types. length types.names ≤ 64) }
@@ -46,7 +46,7 @@ fn add_types(
     tables: &Names,
     types: &mut Types,
     array: &[Value],
-) -> Result<(), TreeText>
+) -> Result<(), TreeTextError>
     requires tables { 0 < length tables.now }
     requires few { length array.now ≤ 64 }
     requires first { types_view types.old ≡ no_types }
@@ -68,7 +68,7 @@ fn add_type(
     types: &mut Types,
     index: u32,
     value: &Value,
-) -> Result<(), TreeText>
+) -> Result<(), TreeTextError>
     requires tables { 0 < length tables.now }
     requires few { length types.old.names < 255 }
     ensures types { Answers (λ _. types_view types.new) result (type_in tables.now index (types_view types.old) (view value.now)) }
