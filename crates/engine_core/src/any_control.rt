@@ -113,6 +113,7 @@ impl Control for AnyControl {
         }
     }
 
+    #[inline(always)]
     fn before_write<C: Chains>(
         &self,
         facts: &Facts,
