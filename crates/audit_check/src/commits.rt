@@ -47,7 +47,7 @@ fn committed(alloc: Global, lines: &[Line]) -> Result<Vec<bool>, AllocError>
 /// Marks the transaction of a line, if the line commits it.
 ///
 /// # Errors
-/// `AllocError`: out of memory. The marks are unchanged.
+/// `AllocError`: out of memory.
 pub fn mark_commit(done: &mut Vec<bool>, line: &Line) -> Result<(), AllocError>
     ensures { OnOk result ((t : ℕ) → is_marked done.new.items t ≡ (is_done t (line_view line.now) || is_marked done.old.items t)) }
 {

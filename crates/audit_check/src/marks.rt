@@ -8,7 +8,7 @@ use std::alloc::{AllocError, Global};
 /// Marks a number.
 ///
 /// # Errors
-/// `AllocError`: out of memory. The marks are unchanged.
+/// `AllocError`: out of memory.
 pub fn mark(marks: &mut Vec<bool>, number: u32) -> Result<(), AllocError>
     ensures { OnOk result ((n : ℕ) → is_marked marks.new.items n ≡ (number == n || is_marked marks.old.items n)) }
 {
@@ -31,7 +31,7 @@ pub fn marked(marks: &[bool], number: u32) -> bool
 /// Appends a value to the list of a number.
 ///
 /// # Errors
-/// `AllocError`: out of memory. The list of each number is unchanged.
+/// `AllocError`: out of memory.
 pub fn keep(
     alloc: Global,
     lists: &mut Vec<Vec<u32>>,

@@ -50,7 +50,7 @@ fn put_start<'a>(table: &mut Table<'a>, line: &Line<'a>) -> Result<(), AllocErro
 /// Sets the value at a row key. `None` removes the row.
 ///
 /// # Errors
-/// `AllocError`: out of memory. The table is unchanged.
+/// `AllocError`: out of memory.
 pub fn put<'a>(
     table: &mut Table<'a>,
     row_key: RowKey<'a>,

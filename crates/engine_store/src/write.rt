@@ -19,8 +19,8 @@ use std::alloc::Global;
 /// disk, two of them syncs, however many commits there are, and none if there is none. None of the calls is refused memory.
 ///
 /// # Errors
-/// `Full`, `DiskFault` and `OutOfMemory`. The journal is stopped: what was taken cannot be taken again. The disk may keep all of the
-/// commits, or none, and after `Full` and `OutOfMemory` none.
+/// `Full`, `DiskFault` and `OutOfMemory`. The journal is stopped: what was taken cannot be taken again. A crash
+/// may leave some of the commits, the oldest first; after `Full` and `OutOfMemory`, none.
 pub fn write_commits<D: Disk>(
     alloc: Global,
     journal: &mut EpochJournal<D>,

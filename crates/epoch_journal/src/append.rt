@@ -111,7 +111,7 @@ impl<D: Disk> EpochJournal<D> {
     /// Adds `count` records. The bytes are their bodies, each followed by its mark.
     ///
     /// # Errors
-    /// `Failed` if a call of the disk fails. The journal is then stopped, and all of the records may be on the disk, or none.
+    /// `Failed` if a call of the disk fails. The journal is then stopped, and a crash may leave the records, or some of them.
     fn append_bodies(&mut self, memory: Memory, bodies: &[u8], count: u64) -> Result<(), Failed>
         requires running { self.old.stopped ≡ false }
         requires some { 0 < length bodies.now }

@@ -21,7 +21,7 @@ use teb_io::Failed;
 /// made safe. It makes four calls of the disk, however many records there are.
 ///
 /// # Errors
-/// `Failed` if one of them fails. All of the records may then be on the disk, or none.
+/// `Failed` if one of them fails. A crash may then leave the records.
 pub(crate) fn add_records<D: Disk>(
     disk: &mut D,
     capacity: u64,

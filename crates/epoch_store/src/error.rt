@@ -41,7 +41,7 @@ pub enum WriteError {
     /// The rest of this epoch's part of the disk does not hold the records. Nothing changed.
     #[error("the disk is full")]
     Full,
-    /// A call of the disk failed. The disk may keep all of the records, or none, and the journal is stopped.
+    /// A call of the disk failed. The journal is stopped, and a crash may leave the records.
     #[error("the disk failed")]
     DiskFault,
     /// Out of memory. Nothing changed.

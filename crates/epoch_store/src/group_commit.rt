@@ -125,7 +125,7 @@ impl<E: Recorder, D: Disk> GroupCommit<E, D> {
     /// refused memory.
     ///
     /// # Errors
-    /// `Failed` if a call of the disk fails. The disk may keep all of the commits that wait, or none, and the store is stopped.
+    /// `Failed` if a call of the disk fails. The store is stopped. Each crash leaves the commits that were acknowledged, and at most the first of those that wait.
     pub fn sync(self) -> (EpochStore<E, D>, Result<(), Failed>)
         ensures engine { result.0.engine ≡ self.engine }
         ensures layout { result.0.journal.layout ≡ self.journal.layout }

@@ -7,7 +7,7 @@
 //! |---|---|
 //! | locks, pipeline | the position of its Done |
 //! | timestamp | the start of its batch |
-//! | snapshot | the start of its batch if an edge leads from the batch to a committed transaction, and otherwise the batch's close |
+//! | snapshot | the start of its batch if an edge leads from a committed member of the batch to a committed transaction, and otherwise the batch's close |
 //!
 //! So at a snapshot node a batch that read old values goes to where its snapshot was taken, and other batches go to where their
 //! writes appeared. Under a root of locks or a pipeline the order is that of the commits, and nothing is sorted.

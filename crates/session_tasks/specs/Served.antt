@@ -26,7 +26,7 @@ module _ {C : Type 0} {g : Ghosts C} where
     pub script : slice_get scripts place ≡ Some (p.session, lines)
     pub way : IsWay (requests_on lines) (mine p)
 
-  -- why a run came to nothing. Want of memory comes at any time
+  -- why a run came to nothing. It may run out of memory at any time
   abbrev pub IsCause : Hall C g → Scripted → RunError C g → Type 0
   IsCause h scripts (PassSpent p) = IsSpent h scripts p
   IsCause h scripts OutOfMemory = Unit {0}

@@ -60,7 +60,7 @@ on_access Snapshot S H n t x false = Go
 on_access Snapshot S H n t x true = or_else (break_for (find (is_first S H n t x) (txns H)) (λ u. First (record { 0 = u }) x))
     (wait_for (find (λ u. unfinished H u && meets S H n t u && wrote H u x) (txns H)))
 
--- b's version of some cell is after the version that a read, and a and b are concurrent, of different sides of n
+-- b's version of some cell is after the version that a read
 unfoldable pub reads_past : Setup → List Event → List Event → ℕ → ℕ → Bool
 reads_past S H [] a b = false
 reads_past S H (Got s x w v ∷ P) a b = (eqb s.0 a && wrote H b x && precedes S H x w.0 b) || reads_past S H P a b

@@ -85,7 +85,8 @@ pub fn histories_only_grow()
     ensures { OfEveryStore OnlyGrows }
 {}
 
-/// A transaction that runs alone is never told to wait, and nothing breaks it. If no transaction is unfinished, one may begin.
+/// A transaction that runs alone is never told to wait, and nothing breaks it, though a request of it may be refused. If no
+/// transaction is unfinished, one may begin.
 pub fn lone_transactions_are_served()
     ensures { OfEveryStore ServesAlone }
 {}

@@ -6,7 +6,7 @@
 //! | Asks | Answer |
 //! |---|---|
 //! | a read | goes on. It sees versions with an earlier timestamp, committed or not |
-//! | a write | breaks (`Late`) if a transaction with a later timestamp has read the writer's own version or an earlier one |
+//! | a write | breaks (`Late`) if a transaction with a later timestamp, which is not aborted, has read the writer's own version or an earlier one |
 //! | a Begin | waits if the open batch of its side is full |
 //! | a Commit | goes on; if the node is *ordered*, it waits for active transactions with an earlier timestamp |
 //!
