@@ -19,8 +19,8 @@ use Rattle.shared_store.specs.declared.session.TheConstants.{MOST_ASKS, MOST_TUR
 use Rattle.shared_store.specs.Known.{Knows}
 use Rattle.shared_store.specs.Stages.{Stage}
 use Rattle.shared_store.specs.Lives.{calls_of}
-use Rattle.shared_store.specs.Gaining.{Gains, SafeAt, SeesCall, SeesFree, SeesNoCall, TakesTurns, is_commit_reply}
-use Rattle.shared_store.specs.Sharing.{GoesOn, IsAnswered, IsSafe, IsUnasked, WasFree, seen}
+use Rattle.shared_store.specs.Gaining.{Gains, NotToldAt, SafeAt, SeesCall, SeesFree, SeesNoCall, TakesTurns, is_commit_reply}
+use Rattle.shared_store.specs.Sharing.{GoesOn, IsAnswered, IsNotTold, IsSafe, IsUnasked, WasFree, seen}
 
 -- what a seat gains, by the result
 module _ (b : Stage) (s : Session) (q : Request) (v w : View LifeEntry Stage) where
@@ -77,6 +77,9 @@ was_free b old new m = record { between = m.between; more = m.more; stage = m.st
 
 pub safe : {V L B : Type 0} {g : Ghosts V L B} (b : Stage) (p : StoreSession V L B g) → SafeAt b (view_of p.seat).seen (view_of p.log_seat).seen → IsSafe b p
 safe b p s = record { stage = s.stage; leads = s.leads; kept = s.kept }
+
+pub not_told : {V L B : Type 0} {g : Ghosts V L B} (b : Stage) (p : StoreSession V L B g) → NotToldAt b (view_of p.seat).seen (view_of p.log_seat).seen → IsNotTold b p
+not_told b p n = record { stage = n.stage; leads = n.leads; fewer = n.fewer }
 
 -- what a session's seat knows after some turns
 pub knows_on : (s asks later n : ℕ) (v w : View LifeEntry Stage) → Knows s asks v → TakesTurns n v w → MOST_TURNS ≤ w.turns + 2 * later → later ≤ MOST_ASKS → Knows s later w

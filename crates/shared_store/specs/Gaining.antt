@@ -1,5 +1,5 @@
 -- What a seat knows once its turn is over.
-use Rattle.std.specs.Prelude.{◌≡◌, ℕ, ◌+◌, ◌≤◌, List, [], ◌∷◌, ◌++◌, Bool, true, false, Option, Some, Result, Ok, Err}
+use Rattle.std.specs.Prelude.{◌≡◌, ℕ, ◌+◌, ◌<◌, ◌≤◌, List, [], ◌∷◌, ◌++◌, Bool, true, false, Option, Some, Result, Ok, Err}
 use Rattle.teb_rules.specs.declared.names.Reply.{Reply as TheReply}
 use Rattle.teb_rules.specs.declared.names.Reply.TheVariants.{Committed}
 use Rattle.teb_rules.specs.declared.names.Request.{Request}
@@ -118,3 +118,9 @@ pub record SafeAt (b : Stage) (seen : List LifeEntry) (told : List Kept) : Type 
   pub stage : Stage
   pub leads : LeadsTo b seen stage
   pub kept : commits_at stage ≤ total_in told
+
+-- the log has told that it keeps fewer commits than the life that was seen has
+pub record NotToldAt (b : Stage) (seen : List LifeEntry) (told : List Kept) : Type 0 where
+  pub stage : Stage
+  pub leads : LeadsTo b seen stage
+  pub fewer : total_in told < commits_at stage

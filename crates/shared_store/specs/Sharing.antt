@@ -1,5 +1,5 @@
 -- What contracts see of a shared store and its sessions, and what a call adds.
-use Rattle.std.specs.Prelude.{◌≡◌, ℕ, ◌+◌, ◌≤◌, List, [], ◌∷◌, ◌++◌, false, Option, Some}
+use Rattle.std.specs.Prelude.{◌≡◌, ℕ, ◌+◌, ◌<◌, ◌≤◌, List, [], ◌∷◌, ◌++◌, false, Option, Some}
 use Rattle.teb_rules.specs.declared.names.Reply.{Reply}
 use Rattle.teb_rules.specs.declared.names.Request.{Request}
 use Rattle.short_reply.specs.declared.ShortReply.{ShortReply}
@@ -95,6 +95,12 @@ module _ {V L B : Type 0} {g : Ghosts V L B} where
     pub stage : Stage
     pub leads : LeadsTo b (seen p) stage
     pub kept : commits_at stage ≤ told p
+
+  -- the commits that the log has told that it keeps are fewer than those of the life that it has seen, which ends with its call
+  pub record IsNotTold (b : Stage) (p : StoreSession V L B g) : Type 0 where
+    pub stage : Stage
+    pub leads : LeadsTo b (seen p) stage
+    pub fewer : told p < commits_at stage
 
   -- the list begins with what the session has seen, and has no further calls of it
   pub record IsWithin (entries : List LifeEntry) (p : StoreSession V L B g) : Type 0 where

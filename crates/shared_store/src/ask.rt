@@ -7,7 +7,7 @@ ghost use Rattle.shared_store.specs.declared.error.UnaskedError.{UnaskedError as
 ghost use Rattle.shared_store.specs.declared.error.StoreError.TheVariants as errors;
 ghost use Rattle.shared_store.specs.declared.reply.StoreReply.TheVariants as store_replies;
 ghost use Rattle.shared_store.specs.Beginning.{IsBegin};
-ghost use Rattle.shared_store.specs.Sharing.{base_of, IsAnswered, IsSafe, IsSessionOf, IsUnasked, WasFree, told};
+ghost use Rattle.shared_store.specs.Sharing.{base_of, IsAnswered, IsNotTold, IsSafe, IsSessionOf, IsUnasked, WasFree, told};
 
 use crate::error::{AskError, StoreError};
 use crate::reply::StoreReply;
@@ -33,7 +33,8 @@ impl<S: EpochServer> StoreSession<S> {
     /// `Spent` if the session has made `MOST_ASKS` calls. `Unasked` if the log has failed earlier, or has spent its turns at the front, of
     /// which it has 2^44; if the commit or the rows of the next epoch do not fit; or if memory runs out. With both, nothing was asked.
     /// `Unsure` if the log failed before it kept a commit, or had spent its turns: the call is in the life of the store, and a crash may
-    /// keep it or not. Once the log has failed, nothing is asked.
+    /// keep it or not. It is not returned if the log has told the session that it keeps the commit. Once the log has failed, nothing is
+    /// asked.
     pub fn ask<R: Wait>(
         &mut self,
         store: &Store<S>,
@@ -49,6 +50,7 @@ impl<S: EpochServer> StoreSession<S> {
         ensures no_reply { IfOk result (λ a. ((r : TheReply) → a ≢ store_replies.Reply r) → IsUnasked (base_of store.now) self.old self.new) }
         ensures later { IfOk result (λ a. a ≡ store_replies.Later → IsBegin request × WasFree (base_of store.now) self.old self.new) }
         ensures unsure { IsErrOf result errors.Unsure → IsAnswered (base_of store.now) self.old self.new request replies.Committed }
+        ensures not_told { IsErrOf result errors.Unsure → IsNotTold (base_of store.now) self.new }
         ensures unasked { (f : TheUnaskedError) → IsErrOf result (errors.Unasked f) → IsUnasked (base_of store.now) self.old self.new }
         ensures spent { IsErrOf result errors.Spent → self.new ≡ self.old }
         ensures when { (result ≡ Err errors.Spent) ↔ (self.old.asks ≡ MOST_ASKS) }

@@ -1,10 +1,11 @@
 //! What a session does at the front and at the log.
 
-ghost use Rattle.std.specs.Prelude.{◌≡◌, ◌≤◌, true, IfOk, IsTrue};
+ghost use Rattle.std.specs.Prelude.{◌≡◌, ◌<◌, ◌≤◌, true, false, IfOk, IsErrOf, IsTrue};
 ghost use Rattle.turn_lock.specs.Seats.{view_of};
+ghost use Rattle.shared_store.specs.declared.error.AskError.TheVariants as errors;
 ghost use Rattle.shared_store.specs.declared.reply.StoreReply.TheVariants as store_replies;
 ghost use Rattle.shared_store.specs.Beginning.{IsBegin};
-ghost use Rattle.shared_store.specs.Gaining.{Gains, IsCountedIn, SafeAt, Sees, SeesFree, TakesLogTurns, TakesTurns, is_commit_reply};
+ghost use Rattle.shared_store.specs.Gaining.{Gains, IsCountedIn, NotToldAt, SafeAt, Sees, SeesFree, TakesLogTurns, TakesTurns, is_commit_reply};
 ghost use Rattle.shared_store.specs.Sharing.{base_of, IsSessionOf};
 ghost use Rattle.shared_store.specs.Sparing.{HasTurns};
 ghost use Rattle.shared_store.specs.Totals.{total_in};
@@ -25,7 +26,7 @@ impl<S: EpochServer> StoreSession<S> {
     /// Asks, and waits until the log keeps the commit, if it is one.
     ///
     /// # Errors
-    /// `Unsure` if the log does not keep it. `Unasked` if nothing was asked.
+    /// `Unsure` if it is a commit, and the log has not told that it keeps it. `Unasked` if nothing was asked.
     pub(crate) fn ask_through<R: Wait>(
         &mut self,
         store: &Store<S>,
@@ -42,6 +43,7 @@ impl<S: EpochServer> StoreSession<S> {
         ensures gains { Gains (base_of store.now) self.old.session request result (view_of self.old.seat) (view_of self.new.seat) }
         ensures later { IfOk result (λ a. a ≡ store_replies.Later → IsBegin request × SeesFree (base_of store.now) self.old.session (view_of self.old.seat) (view_of self.new.seat)) }
         ensures safe { IfOk result (λ a. IsTrue (is_commit_reply a) → SafeAt (base_of store.now) (view_of self.new.seat).seen (view_of self.new.log_seat).seen) }
+        ensures not_told { IsErrOf result errors.Unsure → NotToldAt (base_of store.now) (view_of self.new.seat).seen (view_of self.new.log_seat).seen }
     {
         match self.ask_twice(store, rt, alloc, request) {
             Answer::Reply(reply, number) => {
@@ -134,7 +136,8 @@ impl<S: EpochServer> StoreSession<S> {
     }
 
     /// Waits until the log keeps the first `number` commits of the life. The session that finds that it does not writes all commits that wait.
-    /// It returns false if the log has failed before it kept them, or has spent its turns.
+    /// It returns true if and only if the log tells at the turn of this session that it keeps them. It does not if it has failed before it kept
+    /// them, or has spent its turns.
     fn settle<R: Wait>(&mut self, store: &Store<S>, rt: &R, alloc: Global, number: u64) -> bool
         requires session { IsSessionOf store.now self.old }
         requires turns { HasTurns 0 1 self.old }
@@ -142,6 +145,7 @@ impl<S: EpochServer> StoreSession<S> {
         ensures same { (self.new.session ≡ self.old.session) × (self.new.asks ≡ self.old.asks) × (self.new.seat ≡ self.old.seat) }
         ensures turn { TakesLogTurns 1 (view_of self.old.log_seat) (view_of self.new.log_seat) }
         ensures safe { result ≡ true → number ≤ total_in (view_of self.new.log_seat).seen }
+        ensures not_told { result ≡ false → total_in (view_of self.new.log_seat).seen < number }
     {
         let pass = store
             .log_door

@@ -38,8 +38,9 @@
 //! (`Hosted::ask`, clause `open`), and then it begins none, by the rules. So a Begin of any other session is asked only if fewer than 8,192 have begun in
 //! its epoch. Only a Begin of a session that holds no transaction is answered `Later`. A session is answered Committed only if the
 //! log has told it that it keeps at least as many commits as the life has up to this one, and the log keeps as many as it tells (`IsKept`): a
-//! crash leaves them. Nothing is asked after the log has failed. [`Store::close`] returns a server to which the life leads, and a log that
-//! keeps all of it, unless it has failed. The log ends with a checkpoint, or the closing says why not ([`NoCheckpoint`]).
+//! crash leaves them. It is answered [`StoreError::Unsure`] only if the log has told it of fewer (`IsNotTold`). Nothing is asked after the log
+//! has failed. [`Store::close`] returns a server to which the life leads, and a log that keeps all of it, unless it has failed. The log ends
+//! with a checkpoint, or the closing says why not ([`NoCheckpoint`]).
 //!
 //! Threads may share a store, and a session may go to another thread, if the server and the log may (`embedded_shared` is an example).
 //!

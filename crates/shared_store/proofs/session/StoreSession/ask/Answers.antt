@@ -4,7 +4,7 @@ use Rattle.turn_lock.specs.Seats.{view_of}
 use Rattle.shared_store.specs.declared.error.AskError.{AskError}
 use Rattle.shared_store.specs.Gaining.{SafeAt}
 use Rattle.shared_store.specs.Sharing.{base_of}
-use Rattle.shared_store.proofs.Answered.{answered, gains_call, gains_no_reply, gains_unasked, gains_unsure, safe, safe_commit, unasked, was_free}
+use Rattle.shared_store.proofs.Answered.{answered, gains_call, gains_no_reply, gains_unasked, gains_unsure, not_told, safe, safe_commit, unasked, was_free}
 use Rattle.shared_store.proofs.Results.{if_ok}
 use Rattle.shared_store.proofs.session.StoreSession.ask.Goals as goal
 
@@ -46,6 +46,11 @@ returns-in-Err-Unsure-clause-unsure g c =
     λ _. answered b old c.ask_through.new.self t.same.1 t.same.0 c.requires.session.1 2 t.turn c.args.request Committed
     (gains_unsure b old.session c.args.request (view_of old.seat) (view_of c.ask_through.new.self.seat) c.ask_through.result
     (c.in-Err-Unsure.is ∙ ap (λ (f : AskError). Err f) c.in-Err-Unsure.field-0-is) t.gains)
+
+pub returns-in-Err-Unsure-clause-not_told : goal.returns-in-Err-Unsure-clause-not_told
+returns-in-Err-Unsure-clause-not_told g c =
+    let b = base_of c.args.store.now in
+    λ _. not_told b _ (c.ask_through.ensures.not_told (c.in-Err-Unsure.is ∙ ap (λ (f : AskError). Err f) c.in-Err-Unsure.field-0-is))
 
 pub returns-in-Err-Unasked-clause-unasked : goal.returns-in-Err-Unasked-clause-unasked
 returns-in-Err-Unasked-clause-unasked g c =
