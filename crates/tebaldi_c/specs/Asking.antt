@@ -30,6 +30,11 @@ abbrev pub IfFile : Option FileState → (FileState → Type 0) → Type 0
 IfFile None P = Unit {0}
 IfFile (Some f) P = P f
 
+-- no call waits to be performed on the file, if there is one
+abbrev pub IsSettled : Option FileState → Type 0
+IsSettled None = Unit {0}
+IsSettled (Some f) = f.waiting ≡ 0
+
 -- until no call waits, the same number of commits is in the file; and a call on it has failed if one had
 abbrev pub IsFileKept : Option FileState → Option FileState → Type 0
 IsFileKept None None = Unit {0}

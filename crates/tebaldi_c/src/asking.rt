@@ -4,7 +4,7 @@ ghost use Rattle.std.specs.Prelude.{◌≡◌, ◌≢◌, ◌↔◌, ◌⊎◌, 
 ghost use Rattle.teb_rules.specs.Answer.{answer};
 ghost use Rattle.c_forms.specs.Requests.{request_in as read};
 ghost use Rattle.c_forms.specs.Replies.{reply_form as form};
-ghost use Rattle.tebaldi_c.specs.Asking.{IfOpen, IsAnswered, IsAsked, IsKept, IsFileKept, HasFailed, IsFailed, IsInMemory, IsNoReply, IsOfAsk, IsOfMemoryAsk};
+ghost use Rattle.tebaldi_c.specs.Asking.{IfOpen, IsAnswered, IsAsked, IsKept, IsFileKept, HasFailed, IsFailed, IsInMemory, IsNoReply, IsOfAsk, IsOfMemoryAsk, IsSettled};
 ghost use Rattle.tebaldi_c.specs.Hindered.{HasWaiting, IsFullFor, IsFullForForm, IsStopped};
 ghost use Rattle.tebaldi_c.specs.Images.{IfFiled};
 
@@ -43,6 +43,7 @@ pub extern "C" fn tebaldi_ask(
     ensures failed { HasFailed store.old.held.value → result ≢ OK }
     ensures not_open { result ≡ NOT_OPEN ↔ IsNone store.old.held.value }
     ensures waiting { result ≡ WAITING → IfOpen store.old.held.value (λ s. IfFiled s HasWaiting) }
+    ensures settled { result ≡ OK → IfOpen store.old.held.value (λ s. IsSettled s.file) }
     ensures stopped { result ≡ STOPPED → IfOpen store.old.held.value (λ s. IfFiled s IsStopped) }
     ensures no_room { result ≡ NO_ROOM → IfOpen store.old.held.value (λ s. IfFiled s (IsFullForForm session (read request.now))) }
     ensures sure { result ≢ UNSURE }
@@ -76,6 +77,7 @@ impl Shelf {
         ensures not_told { result ≢ OK → reply.new ≡ reply.old }
         ensures kept { IsFileKept self.old.file self.new.file }
         ensures waiting { result ≡ WAITING → IfFiled self.old HasWaiting }
+        ensures settled { result ≡ OK → IsSettled self.old.file }
         ensures stopped { result ≡ STOPPED → IfFiled self.old IsStopped }
         ensures no_room { result ≡ NO_ROOM → IfFiled self.old (IsFullFor session.0 request.now) }
         ensures failed { IsFailed self.old.file → result ≢ OK }
@@ -107,6 +109,7 @@ fn ask_file(
     ensures kept { 0 < file.new.file.waiting → file.new.file.kept ≡ file.old.file.kept }
     ensures same_failure { file.new.file.failed ≡ file.old.file.failed }
     ensures waiting { result ≡ WAITING → HasWaiting file.old }
+    ensures settled { result ≡ OK → file.old.file.waiting ≡ 0 }
     ensures stopped { result ≡ STOPPED → IsStopped file.old }
     ensures no_room { result ≡ NO_ROOM → IsFullFor session.0 request.now file.old }
     ensures failed { file.old.file.failed ≡ true → result ≢ OK }

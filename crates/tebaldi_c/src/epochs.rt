@@ -5,7 +5,7 @@ ghost use Rattle.store_setup.specs.SetupView.{setup_view};
 ghost use Rattle.store_setup.specs.Sound.{IsWhole, IsNamed, HasNames};
 ghost use Rattle.tree_toml.specs.SetupText.{setup_of_text};
 ghost use Rattle.tree_switch.specs.Starts.{IsStarted};
-ghost use Rattle.tebaldi_c.specs.Asking.{HasFailed, IfOpen, IsFailed, IsInMemory};
+ghost use Rattle.tebaldi_c.specs.Asking.{HasFailed, IfOpen, IsFailed, IsInMemory, IsSettled};
 ghost use Rattle.tebaldi_c.specs.Buffers.{IsTold};
 ghost use Rattle.tebaldi_c.specs.Epochs.{HasOtherTables, IfBoth, IsFirstUnfinished, IsFirstUntold, IsHindrance, IsNext, IsNextOf, IsOfEpoch, IsOfMemoryEpoch, IsOfMemoryNext, IsOfNext};
 ghost use Rattle.tebaldi_c.specs.Hindered.{HasNoRoomForRows, HasWaiting, IsStopped};
@@ -61,6 +61,7 @@ pub extern "C" fn tebaldi_next_epoch(
     ensures nobody { result ≢ UNFINISHED → result ≢ UNTOLD → who.new ≡ who.old }
     ensures other_tables { result ≡ OTHER_TABLES → IfOpen store.old.held.value (λ s. HasOtherTables (setup_of_text tree.now) s.engine) }
     ensures waiting { result ≡ WAITING → IfOpen store.old.held.value (λ s. IfFiled s HasWaiting) }
+    ensures settled { result ≡ OK → IfOpen store.old.held.value (λ s. IsSettled s.file) }
     ensures no_room { result ≡ NO_ROOM → IfOpen store.old.held.value (λ s. IfFiled s HasNoRoomForRows) }
     ensures stopped { result ≡ STOPPED → IfOpen store.old.held.value (λ s. IfFiled s IsStopped) }
     ensures other { IsOfEpoch result }
@@ -93,6 +94,7 @@ impl Shelf {
         ensures nobody { result ≢ UNFINISHED → result ≢ UNTOLD → who.new ≡ who.old }
         ensures other_tables { result ≡ OTHER_TABLES → setup.names.tables ≢ self.old.engine.names.tables }
         ensures waiting { result ≡ WAITING → IfFiled self.old HasWaiting }
+        ensures settled { result ≡ OK → IsSettled self.old.file }
         ensures no_room { result ≡ NO_ROOM → IfFiled self.old HasNoRoomForRows }
         ensures stopped { result ≡ STOPPED → IfFiled self.old IsStopped }
         ensures status { (result ≡ OK) ⊎ IsOfNext result }
@@ -118,6 +120,7 @@ fn end_file_epoch(alloc: Global, file: &mut FileStore, setup: Setup, who: &mut u
     ensures nobody { result ≢ UNFINISHED → result ≢ UNTOLD → who.new ≡ who.old }
     ensures other_tables { result ≡ OTHER_TABLES → setup.names.tables ≢ file.old.engine.names.tables }
     ensures waiting { result ≡ WAITING → HasWaiting file.old }
+    ensures settled { result ≡ OK → file.old.file.waiting ≡ 0 }
     ensures no_room { result ≡ NO_ROOM → HasNoRoomForRows file.old }
     ensures stopped { result ≡ STOPPED → IsStopped file.old }
     ensures set_up { IsSetUp file.old.engine.store file.old.engine.names → IsSetUp file.new.engine.store file.new.engine.names }
