@@ -78,8 +78,8 @@ was_free b old new m = record { between = m.between; more = m.more; stage = m.st
 pub safe : {V L B : Type 0} {g : Ghosts V L B} (b : Stage) (p : StoreSession V L B g) → SafeAt b (view_of p.seat).seen (view_of p.log_seat).seen → IsSafe b p
 safe b p s = record { stage = s.stage; leads = s.leads; kept = s.kept }
 
-pub not_told : {V L B : Type 0} {g : Ghosts V L B} (b : Stage) (p : StoreSession V L B g) → NotToldAt b (view_of p.seat).seen (view_of p.log_seat).seen → IsNotTold b p
-not_told b p n = record { stage = n.stage; leads = n.leads; fewer = n.fewer }
+pub not_told : {V L B : Type 0} {g : Ghosts V L B} (b : Stage) (old new : StoreSession V L B g) → NotToldAt b (view_of new.seat).seen (view_of old.log_seat) (view_of new.log_seat) → IsNotTold b old new
+not_told b old new n = record { stage = n.stage; leads = n.leads; fewer = n.fewer; looked = n.looked }
 
 -- what a session's seat knows after some turns
 pub knows_on : (s asks later n : ℕ) (v w : View LifeEntry Stage) → Knows s asks v → TakesTurns n v w → MOST_TURNS ≤ w.turns + 2 * later → later ≤ MOST_ASKS → Knows s later w

@@ -1,5 +1,5 @@
 -- One turn at the log: what was taken, what is put back, and what the seat knows then.
-use Rattle.std.proofs.Common.{◌≡◌, ℕ, ◌≤◌, List, [], ◌∷◌, ◌++◌, Some, sym, ◌∙◌, ap, arith}
+use Rattle.std.proofs.Common.{◌≡◌, ℕ, ◌<◌, ◌≤◌, List, [], ◌∷◌, ◌++◌, Some, sym, ◌∙◌, ap, arith}
 use Rattle.turn_lock.specs.declared.view.View.{View}
 use Rattle.turn_lock.specs.Counts.{times, Has}
 use Rattle.turn_lock.specs.Views.{departed}
@@ -42,6 +42,10 @@ module _ {V L B : Type 0} {g : Ghosts V L B} (s : ℕ) (v0 v1 : View Kept Place)
   }
 
   module _ (w : View Kept Place) (t : TookLog) (e : w ≡ departed (tells_in x1) v1) where
+    -- it has a turn less then
+    pub looks : w.turns < v0.turns
+    looks = let k : w.turns ≡ v1.turns = ap (λ (v : View Kept Place). v.turns) e in let n = t.enters.turns in omega arith
+
     -- what the seat knows once x1 is put back
     pub takes_log : TakesLogTurns 1 v0 w
     takes_log = record {
@@ -49,6 +53,7 @@ module _ {V L B : Type 0} {g : Ghosts V L B} (s : ℕ) (v0 v1 : View Kept Place)
       owners = ap (λ (v : View Kept Place). v.owners) e ∙ t.enters.owners;
       still = still;
       turns = (let k : w.turns ≡ v1.turns = ap (λ (v : View Kept Place). v.turns) e in let n = t.enters.turns in omega arith);
+      spent = (let l = looks in omega arith);
     }
       where
         still : total_in v0.seen ≤ total_in w.seen

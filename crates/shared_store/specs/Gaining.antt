@@ -96,6 +96,7 @@ pub record TakesLogTurns (n : ℕ) (v w : View Kept Place) : Type 0 where
   pub base : w.base ≡ v.base
   pub owners : w.owners ≡ v.owners
   pub turns : v.turns ≤ w.turns + n
+  pub spent : w.turns ≤ v.turns
   pub still : total_in v.seen ≤ total_in w.seen
 
 -- the reply to a commit that was made
@@ -119,8 +120,9 @@ pub record SafeAt (b : Stage) (seen : List LifeEntry) (told : List Kept) : Type 
   pub leads : LeadsTo b seen stage
   pub kept : commits_at stage ≤ total_in told
 
--- the log has told that it keeps fewer commits than the life that was seen has
-pub record NotToldAt (b : Stage) (seen : List LifeEntry) (told : List Kept) : Type 0 where
+-- a seat of the log took a turn, and was told that the log keeps fewer commits than the life that was seen has
+pub record NotToldAt (b : Stage) (seen : List LifeEntry) (v w : View Kept Place) : Type 0 where
   pub stage : Stage
   pub leads : LeadsTo b seen stage
-  pub fewer : total_in told < commits_at stage
+  pub fewer : total_in w.seen < commits_at stage
+  pub looked : w.turns < v.turns

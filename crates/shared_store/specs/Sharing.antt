@@ -96,11 +96,13 @@ module _ {V L B : Type 0} {g : Ghosts V L B} where
     pub leads : LeadsTo b (seen p) stage
     pub kept : commits_at stage ≤ told p
 
-  -- the commits that the log has told that it keeps are fewer than those of the life that it has seen, which ends with its call
-  pub record IsNotTold (b : Stage) (p : StoreSession V L B g) : Type 0 where
+  -- it took a turn at the log, and the commits that the log has told that it keeps are fewer than those of the life that it has seen, which
+  -- ends with its call
+  pub record IsNotTold (b : Stage) (old new : StoreSession V L B g) : Type 0 where
     pub stage : Stage
-    pub leads : LeadsTo b (seen p) stage
-    pub fewer : told p < commits_at stage
+    pub leads : LeadsTo b (seen new) stage
+    pub fewer : told new < commits_at stage
+    pub looked : (view_of new.log_seat).turns < (view_of old.log_seat).turns
 
   -- the list begins with what the session has seen, and has no further calls of it
   pub record IsWithin (entries : List LifeEntry) (p : StoreSession V L B g) : Type 0 where

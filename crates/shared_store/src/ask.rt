@@ -50,7 +50,7 @@ impl<S: EpochServer> StoreSession<S> {
         ensures no_reply { IfOk result (λ a. ((r : TheReply) → a ≢ store_replies.Reply r) → IsUnasked (base_of store.now) self.old self.new) }
         ensures later { IfOk result (λ a. a ≡ store_replies.Later → IsBegin request × WasFree (base_of store.now) self.old self.new) }
         ensures unsure { IsErrOf result errors.Unsure → IsAnswered (base_of store.now) self.old self.new request replies.Committed }
-        ensures not_told { IsErrOf result errors.Unsure → IsNotTold (base_of store.now) self.new }
+        ensures not_told { IsErrOf result errors.Unsure → IsNotTold (base_of store.now) self.old self.new }
         ensures unasked { (f : TheUnaskedError) → IsErrOf result (errors.Unasked f) → IsUnasked (base_of store.now) self.old self.new }
         ensures spent { IsErrOf result errors.Spent → self.new ≡ self.old }
         ensures when { (result ≡ Err errors.Spent) ↔ (self.old.asks ≡ MOST_ASKS) }

@@ -43,7 +43,7 @@ impl<S: EpochServer> StoreSession<S> {
         ensures gains { Gains (base_of store.now) self.old.session request result (view_of self.old.seat) (view_of self.new.seat) }
         ensures later { IfOk result (λ a. a ≡ store_replies.Later → IsBegin request × SeesFree (base_of store.now) self.old.session (view_of self.old.seat) (view_of self.new.seat)) }
         ensures safe { IfOk result (λ a. IsTrue (is_commit_reply a) → SafeAt (base_of store.now) (view_of self.new.seat).seen (view_of self.new.log_seat).seen) }
-        ensures not_told { IsErrOf result errors.Unsure → NotToldAt (base_of store.now) (view_of self.new.seat).seen (view_of self.new.log_seat).seen }
+        ensures not_told { IsErrOf result errors.Unsure → NotToldAt (base_of store.now) (view_of self.new.seat).seen (view_of self.old.log_seat) (view_of self.new.log_seat) }
     {
         match self.ask_twice(store, rt, alloc, request) {
             Answer::Reply(reply, number) => {
@@ -146,6 +146,7 @@ impl<S: EpochServer> StoreSession<S> {
         ensures turn { TakesLogTurns 1 (view_of self.old.log_seat) (view_of self.new.log_seat) }
         ensures safe { result ≡ true → number ≤ total_in (view_of self.new.log_seat).seen }
         ensures not_told { result ≡ false → total_in (view_of self.new.log_seat).seen < number }
+        ensures looked { (view_of self.new.log_seat).turns < (view_of self.old.log_seat).turns }
     {
         let pass = store
             .log_door

@@ -50,7 +50,7 @@ returns-in-Err-Unsure-clause-unsure g c =
 pub returns-in-Err-Unsure-clause-not_told : goal.returns-in-Err-Unsure-clause-not_told
 returns-in-Err-Unsure-clause-not_told g c =
     let b = base_of c.args.store.now in
-    λ _. not_told b _ (c.ask_through.ensures.not_told (c.in-Err-Unsure.is ∙ ap (λ (f : AskError). Err f) c.in-Err-Unsure.field-0-is))
+    λ _. not_told b c.args.self.now _ (c.ask_through.ensures.not_told (c.in-Err-Unsure.is ∙ ap (λ (f : AskError). Err f) c.in-Err-Unsure.field-0-is))
 
 pub returns-in-Err-Unasked-clause-unasked : goal.returns-in-Err-Unasked-clause-unasked
 returns-in-Err-Unasked-clause-unasked g c =
