@@ -1,6 +1,7 @@
 -- What one more step changes in a log.
 use Rattle.std.specs.Prelude.{IsTrue, ◌↔◌}
-use Rattle.std.proofs.Common.{Bool, true, false, replicate, slice_get, zero, Some, None, ◌≡◌, ◌⊎◌, inl, inr, ℕ, ◌+◌, ◌-◌, ◌<◌, ◌≤◌, max, List, [], ◌∷◌, ◌++◌, length, get_or, take, drop, refl, sym, ◌∙◌, ap, subst, arith, length-append, length-drop, suc, take-append-drop}
+use Rattle.std.proofs.Common.{Bool, true, false, replicate, slice_get, zero, Some, None, ◌≡◌, ◌⊎◌, inl, inr, ℕ, ◌+◌, ◌-◌, ◌<◌, ◌≤◌, max, List, [], ◌∷◌}
+use Rattle.std.proofs.Common.{◌++◌, length, get_or, take, drop, refl, sym, ◌∙◌, ap, subst, arith, length-append, length-drop, suc, take-append-drop}
 use Rattle.std.proofs.lemmas.List.{get_or-take, get_or-drop, get_or_append_left, get_or-append_right, length-take-le, take-append-le, drop-append-le, take_all, drop_all, append-nil, length-replicate}
 use Rattle.std.proofs.lemmas.Bool.{cases_lt}
 use Rattle.crash_disk.specs.declared.call.Call.{Call}
@@ -9,7 +10,8 @@ use Rattle.crash_disk.specs.declared.room.Room.{Room}
 use Rattle.crash_disk.specs.declared.room.Room.TheVariants.{Reserved, Growing}
 use Rattle.crash_disk.specs.Sizes.{MayHold, reserved_calls, reserved_bytes}
 use Rattle.crash_disk.specs.Disk.{IsTorn, Holds, Elapses, Follows, NoMore}
-use Rattle.crash_disk.specs.Log.{Step, Wrote, Synced, steps, total, padded, written, after_step, after_steps, left_after, IsLeft, contents, MayLeave, LeftSince, byte_count, IsOneWriteLess, EndsSynced, synced_bytes, safe_contents}
+use Rattle.crash_disk.specs.Log.{Step, Wrote, Synced, steps, total, padded, written, after_step, after_steps, left_after, IsLeft}
+use Rattle.crash_disk.specs.Log.{contents, MayLeave, LeftSince, byte_count, IsOneWriteLess, EndsSynced, synced_bytes, safe_contents}
 use Rattle.crash_disk.specs.LogLaws.{read_is_left}
 
 -- ---- the log

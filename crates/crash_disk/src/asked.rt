@@ -1,7 +1,7 @@
 //! What a disk in memory was asked.
 
 ghost use Rattle.std.specs.Prelude.{◌≡◌, ◌≤◌, length, MatchOption, Some, slice_get};
-ghost use Rattle.crash_disk.specs.Log.{step_of};
+ghost use Rattle.crash_disk.specs.Log.{byte_count, step_of};
 
 use crate::{Call, MemDisk};
 
@@ -12,6 +12,13 @@ impl MemDisk {
         ensures { result ≡ length self.now.log.steps }
     {
         self.log.call_count()
+    }
+
+    /// Returns the number of bytes of those writes in all.
+    pub fn byte_count(&self) -> usize
+        ensures { result ≡ byte_count self.now.log.steps }
+    {
+        self.log.byte_count()
     }
 
     /// Returns the write or sync at a place among them, the first one at 0, with the bytes that it wrote; a sync has none. `None` if there are no

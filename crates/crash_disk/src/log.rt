@@ -230,6 +230,13 @@ impl Log {
         self.calls.len()
     }
 
+    /// Returns the number of bytes that its writes have in all.
+    pub fn byte_count(&self) -> usize
+        ensures { result ≡ byte_count self.now.steps }
+    {
+        self.bytes.len()
+    }
+
     /// Returns the call at a place, with the bytes that it wrote; a sync has none. `None` if there are no more calls than that. It costs a look
     /// at each later call.
     pub fn call(&self, place: usize) -> Option<(Call, &[u8])>
