@@ -1,5 +1,6 @@
 -- The accesses that are stored by the places of their cells: what they show, and the effect of a new cell or a new access.
-use Rattle.std.proofs.Common.{◌≡◌, ℕ, suc, zero, ◌<◌, ◌≤◌, ◌+◌, ◌-◌, Bool, true, false, cond, eqb, ◌||◌, List, [], ◌∷◌, ◌++◌, length, map, reverse, get_or, take, set, inl, inr, refl, sym, ◌∙◌, ap, subst, arith, if◌then◌else◌, eq-eqb}
+use Rattle.std.proofs.Common.{◌≡◌, ℕ, suc, zero, ◌<◌, ◌≤◌, ◌+◌, ◌-◌, Bool, true, false, cond, eqb, ◌||◌, List, [], ◌∷◌, ◌++◌, length}
+use Rattle.std.proofs.Common.{map, reverse, get_or, take, set, inl, inr, refl, sym, ◌∙◌, ap, subst, arith, if◌then◌else◌, eq-eqb}
 use Rattle.std.specs.List.{list_any, count_by, IsDistinct}
 use Rattle.std.proofs.lemmas.Bool.{ne_eqb}
 use Rattle.std.proofs.lemmas.Bool.Decides.{eqb_tells}

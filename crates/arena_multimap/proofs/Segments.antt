@@ -1,5 +1,6 @@
 -- Segments of one vector: the effect of an edit of one segment on the others.
-use Rattle.std.proofs.Common.{◌≡◌, ◌≢◌, ◌⊎◌, ℕ, ◌+◌, ◌-◌, ◌<◌, ◌≤◌, Bool, cond, eqb, List, length, take, drop, get_or, refl, sym, ◌∙◌, ap, subst, inl, inr, arith, length-take, length-drop, length-append, [], ◌∷◌, ◌++◌}
+use Rattle.std.proofs.Common.{◌≡◌, ◌≢◌, ◌⊎◌, ℕ, ◌+◌, ◌-◌, ◌<◌, ◌≤◌, Bool, cond, eqb, List, length, take, drop, get_or, refl}
+use Rattle.std.proofs.Common.{sym, ◌∙◌, ap, subst, inl, inr, arith, length-take, length-drop, length-append, [], ◌∷◌, ◌++◌}
 use Rattle.std.specs.List.{insert, remove, CopiedTo, SameBelow, SameFrom}
 use Rattle.std.proofs.Math.ListN.{set, length-set, get_or-append}
 use Rattle.std.proofs.lemmas.List.{get_or-take, get_or-drop, get_or-set_other, get_or_push, get_or_past, get_or_default, same_lists}

@@ -1,5 +1,6 @@
 -- One more member in a book.
-use Rattle.std.proofs.Common.{◌≡◌, ◌≢◌, ℕ, suc, ◌+◌, ◌<◌, ◌≤◌, Bool, true, false, cond, eqb, leb, List, [], ◌∷◌, ◌++◌, length, get_or, set, map, find, Some, None, refl, sym, ◌∙◌, ap, subst, inl, inr, arith, length-append, add-one, eq-eqb}
+use Rattle.std.proofs.Common.{◌≡◌, ◌≢◌, ℕ, suc, ◌+◌, ◌<◌, ◌≤◌, Bool, true, false, cond, eqb, leb, List, [], ◌∷◌, ◌++◌, length, get_or}
+use Rattle.std.proofs.Common.{set, map, find, Some, None, refl, sym, ◌∙◌, ap, subst, inl, inr, arith, length-append, add-one, eq-eqb}
 use Rattle.std.proofs.Math.ListN.{length-set}
 use Rattle.std.specs.List.{All}
 use Rattle.std.proofs.lemmas.Bool.{cases_Bool, cases_eq, both_ways, eqb-true}

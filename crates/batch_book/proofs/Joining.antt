@@ -1,5 +1,6 @@
 -- The effect of a Began on the batches of a node on its path.
-use Rattle.std.proofs.Common.{◌≡◌, ◌⊎◌, ℕ, suc, ◌+◌, Bool, true, false, cond, not, ◌&&◌, ◌||◌, eqb, List, [], ◌∷◌, ◌++◌, length, filter, map, count_by, Option, Some, None, refl, sym, ◌∙◌, ap, inl, inr, arith, eqb-true, eq-eqb}
+use Rattle.std.proofs.Common.{◌≡◌, ◌⊎◌, ℕ, suc, ◌+◌, Bool, true, false, cond, not, ◌&&◌, ◌||◌, eqb, List, [], ◌∷◌, ◌++◌, length}
+use Rattle.std.proofs.Common.{filter, map, count_by, Option, Some, None, refl, sym, ◌∙◌, ap, inl, inr, arith, eqb-true, eq-eqb}
 use Rattle.std.proofs.lemmas.Bool.{cases_Bool, not-false, not_from_true, ne_eqb, eqb-false}
 use Rattle.std.proofs.lemmas.List.{map-append}
 use Rattle.std.proofs.lemmas.List.Elements.{filter-append}
@@ -18,7 +19,8 @@ use Rattle.teb_rules.specs.Batches.{idle, opens, start}
 use Rattle.teb_rules.proofs.lemmas.laws.Serial.{filter-In}
 use Rattle.batch_book.specs.Book.{Running, closed_at, is_busy, start_on, admitted_on, admit, rows_joined, running_joined}
 use Rattle.batch_book.specs.Histories.{IsNumbered, MayCome, closing, admitted, members, row_of, running_of, rows_in, running_in}
-use Rattle.batch_book.proofs.Numbered.{begun_step, begins_new, begins_once, unfinished_from, unfinished_kept, finish_begun, committed_step, aborted_step, In-txns_begun, txns_began, spot_began, on_kept, side_kept}
+use Rattle.batch_book.proofs.Numbered.{begun_step, begins_new, begins_once, unfinished_from, unfinished_kept, finish_begun}
+use Rattle.batch_book.proofs.Numbered.{committed_step, aborted_step, In-txns_begun, txns_began, spot_began, on_kept, side_kept}
 use Rattle.batch_book.proofs.Intervals.{start_kept, start_here, start-lt, start_last, last_step, busy_idle, closing_step, closing_here, closing_busy}
 use Rattle.batch_book.proofs.Lists.{filter_in, map_in, count_in, count-append, count_zero, map-map}
 use Rattle.batch_book.proofs.Idle.{row_path, running_path, idle_running, start_on_is, admitted_on_is, busy_joined}

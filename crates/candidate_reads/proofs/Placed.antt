@@ -1,5 +1,6 @@
 -- The place of a transaction's version among the existing ones.
-use Rattle.std.proofs.Common.{ℕ, ◌≡◌, ◌≢◌, suc, ◌+◌, ◌≤◌, Bool, true, false, cond, eqb, IfSome, List, Option, Some, None, refl, sym, ap, subst, ◌∙◌, arith, inl, inr, length, get_or, slice_get, ◌<◌, eqb-true, eq-eqb}
+use Rattle.std.proofs.Common.{ℕ, ◌≡◌, ◌≢◌, suc, ◌+◌, ◌≤◌, Bool, true, false, cond, eqb, IfSome, List, Option, Some, None}
+use Rattle.std.proofs.Common.{refl, sym, ap, subst, ◌∙◌, arith, inl, inr, length, get_or, slice_get, ◌<◌, eqb-true, eq-eqb}
 use Rattle.std.specs.Option.{option_map}
 use Rattle.std.proofs.lemmas.Bool.{both_ways, cases_order, and_parts, and_from, or_cases, not-true, not_from_false}
 use Rattle.std.proofs.lemmas.Option.{slice_get_within, get_or_from_slice_get}

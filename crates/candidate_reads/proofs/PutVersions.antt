@@ -1,5 +1,6 @@
 -- Chains that hold the versions of a history hold those of the history with one more Put if the version is overwritten or inserted at its place.
-use Rattle.std.proofs.Common.{ℕ, ◌≡◌, ◌≢◌, ◌⊎◌, zero, suc, ◌≤◌, ◌<◌, Bool, true, false, ◌||◌, eqb, List, [], ◌∷◌, Option, Some, IsFalse, refl, sym, ap, subst, ◌∙◌, arith, inl, inr, ℤ, slice_get, eq-eqb, eqb-true}
+use Rattle.std.proofs.Common.{ℕ, ◌≡◌, ◌≢◌, ◌⊎◌, zero, suc, ◌≤◌, ◌<◌, Bool, true, false, ◌||◌, eqb, List, [], ◌∷◌, Option}
+use Rattle.std.proofs.Common.{Some, IsFalse, refl, sym, ap, subst, ◌∙◌, arith, inl, inr, ℤ, slice_get, eq-eqb, eqb-true}
 use Rattle.std.proofs.lemmas.Bool.{both_ways, cases_Bool, false_from_ne_true}
 use Rattle.std.proofs.lemmas.Option.{slice_get-get_or}
 use Rattle.std.specs.List.{insert}

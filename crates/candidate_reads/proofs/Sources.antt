@@ -1,5 +1,6 @@
 -- The last version in the chain that is seen is the one that the read rule gives.
-use Rattle.std.proofs.Common.{ℕ, ◌≡◌, ◌⊎◌, zero, suc, ◌<◌, Bool, true, false, not, eqb, List, [], ◌∷◌, Option, Some, None, refl, sym, ap, subst, ◌∙◌, arith, inl, inr, length, get_or, filter, unwrap_or, ltb-true, ℤ, slice_get}
+use Rattle.std.proofs.Common.{ℕ, ◌≡◌, ◌⊎◌, zero, suc, ◌<◌, Bool, true, false, not, eqb, List, [], ◌∷◌, Option, Some, None, refl}
+use Rattle.std.proofs.Common.{sym, ap, subst, ◌∙◌, arith, inl, inr, length, get_or, filter, unwrap_or, ltb-true, ℤ, slice_get}
 use Rattle.std.proofs.lemmas.Bool.{both_ways, cases_order, and_from, not-true, not_from_false, false_from_ne_true}
 use Rattle.std.proofs.lemmas.Option.{get_or_from_slice_get}
 use Rattle.teb_rules.specs.declared.names.Cell.{Cell}

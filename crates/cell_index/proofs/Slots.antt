@@ -1,5 +1,6 @@
 -- New slots have no owner, so each cell keeps its entry.
-use Rattle.std.proofs.Common.{◌≡◌, ℕ, zero, suc, ◌+◌, ◌-◌, ◌*◌, ◌<◌, ◌≤◌, List, [], ◌∷◌, ◌++◌, length, get_or, take, replicate, sym, refl, ◌∙◌, ap, subst, inl, inr, arith, Option, None, if◌then◌else◌, length-append}
+use Rattle.std.proofs.Common.{◌≡◌, ℕ, zero, suc, ◌+◌, ◌-◌, ◌*◌, ◌<◌, ◌≤◌, List, [], ◌∷◌, ◌++◌, length, get_or, take, replicate}
+use Rattle.std.proofs.Common.{sym, refl, ◌∙◌, ap, subst, inl, inr, arith, Option, None, if◌then◌else◌, length-append}
 use Rattle.std.specs.Prelude.{is_none, count_by, IfSome, vec_capacity}
 use Rattle.std.proofs.lemmas.Bool.{cases_lt}
 use Rattle.std.proofs.lemmas.List.{get_or-replicate, get_or_past, take_all, length-replicate}

@@ -1,5 +1,6 @@
 -- Chains stored beside cells: a cell's chain is at the cell's place.
-use Rattle.std.proofs.Common.{true, false, Bool, cond, not, ◌≡◌, ◌⊎◌, ℕ, zero, suc, ◌+◌, ◌<◌, ◌≤◌, List, [], ◌∷◌, ◌++◌, length, get_or, set, refl, sym, ◌∙◌, ap, subst, inl, inr, arith, length-append, if◌then◌else◌, ◌||◌, ◌==◌, Option, Some, None, unwrap_or}
+use Rattle.std.proofs.Common.{true, false, Bool, cond, not, ◌≡◌, ◌⊎◌, ℕ, zero, suc, ◌+◌, ◌<◌, ◌≤◌, List, [], ◌∷◌, ◌++◌, length, get_or, set, refl}
+use Rattle.std.proofs.Common.{sym, ◌∙◌, ap, subst, inl, inr, arith, length-append, if◌then◌else◌, ◌||◌, ◌==◌, Option, Some, None, unwrap_or}
 use Rattle.std.proofs.lemmas.Bool.{eq-eqb, ne_eqb}
 use Rattle.std.proofs.lemmas.List.{get_or_read_under}
 use Rattle.std.proofs.Math.ListN.{get_or-eq_default}

@@ -1,5 +1,6 @@
 -- Freeing the first place of a writer's list keeps the links sound and removes only that writer's version from its chain.
-use Rattle.std.proofs.Common.{true, false, Bool, eqb, cond, not, ◌≡◌, ◌==◌, ℕ, zero, suc, ◌+◌, ◌-◌, ◌<◌, ◌≢◌, List, [], ◌∷◌, length, get_or, map, filter, refl, sym, ◌∙◌, ap, subst, inl, inr, arith, if◌then◌else◌, None, Some, eq-eqb}
+use Rattle.std.proofs.Common.{true, false, Bool, eqb, cond, not, ◌≡◌, ◌==◌, ℕ, zero, suc, ◌+◌, ◌-◌, ◌<◌, ◌≢◌, List, [], ◌∷◌, length}
+use Rattle.std.proofs.Common.{get_or, map, filter, refl, sym, ◌∙◌, ap, subst, inl, inr, arith, if◌then◌else◌, None, Some, eq-eqb}
 use Rattle.std.specs.List.{remove}
 use Rattle.std.proofs.lemmas.Bool.{cases_eq}
 use Rattle.std.proofs.lemmas.List.{get_or-map, length-map}
@@ -17,7 +18,8 @@ use Rattle.chain_pool.specs.Linked.{Linked, HasLasts, versions}
 use Rattle.chain_pool.proofs.Keys.{same_txn-itself, same_txn-exact, key_cases, key_apart, key_other}
 use Rattle.chain_pool.proofs.Threads.{high, low, thread-insert, thread-remove, thread-keep}
 use Rattle.chain_pool.proofs.Rings.{step_back, ring-remove, ring-keep, places-ring-remove, places-ring-keep, mine_next, mine_previous}
-use Rattle.chain_pool.proofs.Slots.{chosen, passed, map-remove, map-agree, RingWith, ring-versions, ring-end, same-end, one_chain, one_owner, free_chain, free_owned, pair_owner, slot_here, slot_else, pair_else, chain_kept, chain_was, owned_kept, owned_was, free_kept, free_was}
+use Rattle.chain_pool.proofs.Slots.{chosen, passed, map-remove, map-agree, RingWith, ring-versions, ring-end, same-end, one_chain, one_owner, free_chain}
+use Rattle.chain_pool.proofs.Slots.{free_owned, pair_owner, slot_here, slot_else, pair_else, chain_kept, chain_was, owned_kept, owned_was, free_kept, free_was}
 
 -- the state after the place is freed
 pub record IsFreed (ps ps' : List Place) (chain chain' : Cell → Head) (own own' : Txn → Head) (unused' : Head) (t : Txn) (cell : Cell) (p a : ℕ) : Type 0 where

@@ -16,7 +16,8 @@ use Rattle.chain_pool.specs.Linked.{Linked, HasLasts, versions, nth_place}
 use Rattle.chain_pool.proofs.Keys.{same_txn-itself, same_txn-exact, key_cases, key_apart, key_other}
 use Rattle.chain_pool.proofs.Threads.{here, above, thread-insert, thread-remove, thread-keep}
 use Rattle.chain_pool.proofs.Rings.{ring-insert, ring-keep, ring-one, places-ring-insert, places-ring-one, places-ring-keep, mine_first, mine_previous, steps-at, steps-end}
-use Rattle.chain_pool.proofs.Slots.{chosen, passed, map-insert, map-agree, RingWith, ring-versions, ring-end, same-end, one_chain, one_owner, free_chain, free_owned, slot_here, slot_else, pair_else, chain_kept, chain_was, owned_kept, owned_was, free_kept, free_was}
+use Rattle.chain_pool.proofs.Slots.{chosen, passed, map-insert, map-agree, RingWith, ring-versions, ring-end, same-end, one_chain, one_owner, free_chain}
+use Rattle.chain_pool.proofs.Slots.{free_owned, slot_here, slot_else, pair_else, chain_kept, chain_was, owned_kept, owned_was, free_kept, free_was}
 
 -- the state after the version is placed
 pub record IsPlaced (ps ps' : List Place) (chain chain' : Cell → Head) (own' : Txn → Head) (unused' : Head) (v : Stored) (i q : ℕ) : Type 0 where

@@ -1,5 +1,6 @@
 -- Writing a slot: what stays unchanged elsewhere, and the versions of a chain.
-use Rattle.std.proofs.Common.{true, false, ◌≡◌, ◌==◌, ℕ, suc, ◌-◌, ◌<◌, ◌≢◌, List, [], ◌∷◌, ◌++◌, length, get_or, take, drop, map, refl, sym, ◌∙◌, ap, arith, if◌then◌else◌, Option, Some, None, ℤ, unwrap_or, eq-eqb}
+use Rattle.std.proofs.Common.{true, false, ◌≡◌, ◌==◌, ℕ, suc, ◌-◌, ◌<◌, ◌≢◌, List, [], ◌∷◌, ◌++◌, length, get_or, take, drop}
+use Rattle.std.proofs.Common.{map, refl, sym, ◌∙◌, ap, arith, if◌then◌else◌, Option, Some, None, ℤ, unwrap_or, eq-eqb}
 use Rattle.std.specs.List.{insert, remove}
 use Rattle.std.specs.Option.{option_map}
 use Rattle.std.proofs.lemmas.Bool.Decides.{nat_tests}

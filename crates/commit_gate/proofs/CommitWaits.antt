@@ -1,5 +1,6 @@
 -- At each node, a Commit waits for the lowest-numbered of the transactions that the gate names and the unfinished sources that it meets there.
-use Rattle.std.proofs.Common.{◌≡◌, ◌<◌, ℕ, zero, suc, Bool, true, false, cond, ◌&&◌, ◌||◌, eqb, ltb, min, List, length, [], ◌∷◌, get_or, find, Option, Some, None, refl, sym, ◌∙◌, ap, inl, inr, arith, lt-ltb}
+use Rattle.std.proofs.Common.{◌≡◌, ◌<◌, ℕ, zero, suc, Bool, true, false, cond, ◌&&◌, ◌||◌, eqb, ltb, min, List, length}
+use Rattle.std.proofs.Common.{[], ◌∷◌, get_or, find, Option, Some, None, refl, sym, ◌∙◌, ap, inl, inr, arith, lt-ltb}
 use Rattle.std.proofs.lemmas.Bool.{and_parts, cases_lt, ltb-true, le-ltb, eq-eqb, or_left, or_right}
 use Rattle.teb_rules.specs.declared.names.Node.{Node}
 use Rattle.teb_rules.specs.declared.names.Txn.{Txn}

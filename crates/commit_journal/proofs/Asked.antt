@@ -1,5 +1,6 @@
 -- The transaction that a request would commit, and what holds after it commits.
-use Rattle.std.proofs.Common.{◌≡◌, ◌<◌, ◌≤◌, ◌+◌, ◌*◌, ℕ, Bool, true, false, cond, List, [], ◌∷◌, ◌++◌, length, Option, Some, None, refl, sym, ap, subst, ◌∙◌, arith, inl, inr, length-append, Result, Ok, Err, ℤ, take}
+use Rattle.std.proofs.Common.{◌≡◌, ◌<◌, ◌≤◌, ◌+◌, ◌*◌, ℕ, Bool, true, false, cond, List, [], ◌∷◌, ◌++◌, length, Option, Some}
+use Rattle.std.proofs.Common.{None, refl, sym, ap, subst, ◌∙◌, arith, inl, inr, length-append, Result, Ok, Err, ℤ, take}
 use Rattle.std.proofs.lemmas.Bool.{cases_lt}
 use Rattle.teb_rules.specs.declared.names.Txn.{Txn}
 use Rattle.teb_rules.specs.declared.names.Session.{Session}

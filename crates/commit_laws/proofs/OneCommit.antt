@@ -1,5 +1,6 @@
 -- The effect of one more commit on the final table.
-use Rattle.std.proofs.Common.{◌≡◌, ◌≢◌, ◌⊎◌, ◌<◌, ◌≤◌, ℕ, suc, Bool, true, false, cond, not, ◌&&◌, List, [], ◌∷◌, Option, Some, None, ℤ, refl, sym, ap, subst, ◌∙◌, arith, inl, inr, length, unwrap_or, lt-ltb, le-ltb, ltb-true, ltb-false, eqb-true, le_refl}
+use Rattle.std.proofs.Common.{◌≡◌, ◌≢◌, ◌⊎◌, ◌<◌, ◌≤◌, ℕ, suc, Bool, true, false, cond, not, ◌&&◌, List, [], ◌∷◌, Option, Some, None, ℤ, refl}
+use Rattle.std.proofs.Common.{sym, ap, subst, ◌∙◌, arith, inl, inr, length, unwrap_or, lt-ltb, le-ltb, ltb-true, ltb-false, eqb-true, le_refl}
 use Rattle.std.specs.List.{list_all}
 use Rattle.std.proofs.lemmas.Bool.{eq-eqb, both_ways, cases_eq, cases_lt, and_from, and_parts, not-true, not-false, false_from_ne_true}
 use Rattle.teb_rules.specs.declared.names.Txn.{Txn}
@@ -22,7 +23,8 @@ use Rattle.teb_rules.proofs.lemmas.laws.Serial.{In-filter, filter-In, commits_fr
 use Rattle.teb_rules.proofs.lemmas.laws.Timeline.{committed-upto, wrote-upto, put_order}
 use Rattle.teb_rules.proofs.lemmas.laws.VersionOrder.{precedes_irreflexive}
 use Rattle.commit_laws.specs.Records.{is_newest}
-use Rattle.commit_laws.proofs.Latest.{counted, Wrote, latest_is, latest_nobody, writers_ordered_by, transitive, in_counted, counted_in, was_done, then_wrote, now_wrote, same_order, then_counted, still_latest, nobody_then, value_then}
+use Rattle.commit_laws.proofs.Latest.{counted, Wrote, latest_is, latest_nobody, writers_ordered_by, transitive, in_counted, counted_in}
+use Rattle.commit_laws.proofs.Latest.{was_done, then_wrote, now_wrote, same_order, then_counted, still_latest, nobody_then, value_then}
 
 -- if not all elements pass, one of them fails
 not_all : (p : ℕ → Bool) (us : List ℕ) → list_all p us ≡ false → (u : ℕ) × In u us × (p u ≡ false)

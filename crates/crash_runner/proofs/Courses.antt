@@ -24,7 +24,7 @@ use Rattle.commit_laws.proofs.Prefixes.{length-records}
 use Rattle.commit_laws.proofs.Laws.{records_final, records_leave_the_rows}
 use Rattle.commit_journal.specs.Kept.{Kept}
 use Rattle.commit_journal.proofs.Replies.{Outcome, commits, others, outcome, committed_now}
-use Rattle.serial_order.specs.Tables.{IsFinalRows}
+use Rattle.teb_rules.specs.Epochs.{AreFinalRows}
 use Rattle.script_text.specs.declared.Line.{Line}
 use Rattle.script_text.specs.declared.Answered.{Answered}
 use Rattle.script_runner.specs.replay.Logs.{Requests, log_of, replayed}
@@ -152,7 +152,7 @@ module _ (stop : ℕ) (X : Store) (lines : List Line) (given : List Answered) (s
       }
 
   -- they are also the final rows of `run.before`, the history whose records were recovered
-  pub rows_are_final : IsFinalRows X run.before rows
+  pub rows_are_final : AreFinalRows X run.before rows
   rows_are_final = record {
     ascending = ascending;
     each = λ x. after x ∙ records_final X (tree_facts X.setup sound) run.before (lawful_of X run.before sound run.reached) x;

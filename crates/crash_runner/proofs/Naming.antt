@@ -7,7 +7,7 @@ use Rattle.teb_rules.specs.declared.names.Cell.{Cell}
 use Rattle.teb_rules.specs.declared.history.Event.{Event}
 use Rattle.teb_rules.specs.Run.{history_after}
 use Rattle.engine_core.specs.EngineModel.{IsReached}
-use Rattle.serial_order.specs.Tables.{IsFinalRows}
+use Rattle.teb_rules.specs.Epochs.{AreFinalRows}
 use Rattle.script_text.specs.declared.Answered.{Answered}
 use Rattle.script_text.specs.Named.{ReplyNamed, RowsNamed}
 use Rattle.script_runner.specs.replay.Logs.{Requests, log_of}
@@ -41,5 +41,5 @@ module _ (m : SetupView) (whole : IsWhole m) (nodes : IsNamed m) where
       (over asked (history_after (store_of_view m) [] asked) refl) (names_of m) (given ++ front.0) refl (sym front.1) in
       all_front (λ (a : Answered). ReplyNamed (names_of m) a.reply) given front.0 all
 
-  pub kept_named : (H : List Event) → IsReached (store_of_view m) H → (rows : List (Cell × ℤ)) → IsFinalRows (store_of_view m) H rows → RowsNamed (names_of m) rows
+  pub kept_named : (H : List Event) → IsReached (store_of_view m) H → (rows : List (Cell × ℤ)) → AreFinalRows (store_of_view m) H rows → RowsNamed (names_of m) rows
   kept_named H r rows f = rows_named m (store_of_view m) (names_of m) H (history_over m (store_of_view m) (names_of m) (log_of (store_of_view m) [] r.0) H (over r.0 H r.1)) rows f

@@ -4,9 +4,10 @@ ghost use Rattle.std.specs.Prelude.{◌≡◌, true, false, IsErrOf};
 ghost use Rattle.teb_rules.specs.declared.names.Reply.{Reply as TheReply};
 ghost use Rattle.teb_rules.specs.declared.names.Reply.TheVariants as replies;
 ghost use Rattle.teb_rules.specs.Answer.{answer};
-ghost use Rattle.hall_server.specs.Told.{events_after, told, IsToldBy};
+ghost use Rattle.hall_server.specs.Told.{told};
+ghost use Rattle.teb_rules.specs.Told.{IsToldBy, events_after};
 ghost use Rattle.hall_server.specs.declared.error.ServerError.TheVariants as failures;
-ghost use Rattle.hall_server.specs.declared.error.UnaskedError.TheVariants as faults;
+ghost use Rattle.hall_server.specs.declared.error.UnaskedError.TheVariants as unasked;
 ghost use Rattle.commit_journal.specs.Asking.{HasNoRoom};
 
 use commit_journal::{Durable, DurableError};
@@ -49,10 +50,10 @@ impl<C: Chains, D: Disk> Server for DurableServer<C, D> {
         ensures store { self.new.durable.store ≡ self.old.durable.store }
         ensures names { self.new.durable.names ≡ self.old.durable.names }
         ensures unsure { (r : TheReply) → IsErrOf result (failures.Unsure r) → r ≡ replies.Committed }
-        ensures stopped { IsErrOf result (failures.Unasked faults.Stopped) → self.old.durable.stopped ≡ true }
-        ensures stays { self.old.durable.stopped ≡ true → IsErrOf result (failures.Unasked faults.Stopped) }
+        ensures stopped { IsErrOf result (failures.Unasked unasked.Stopped) → self.old.durable.stopped ≡ true }
+        ensures stays { self.old.durable.stopped ≡ true → IsErrOf result (failures.Unasked unasked.Stopped) }
         ensures stops { self.new.durable.stopped ≡ true → self.old.durable.stopped ≡ false → IsErrOf result (failures.Unsure replies.Committed) }
-        ensures full { IsErrOf result (failures.Unasked faults.Full) → HasNoRoom D.capacity self.old.durable session request }
+        ensures full { IsErrOf result (failures.Unasked unasked.Full) → HasNoRoom D.capacity self.old.durable session request }
     {
         match self.durable.ask(alloc, session, request) {
             Ok(reply) => Ok(reply),

@@ -4,9 +4,10 @@ ghost use Rattle.std.specs.Prelude.{◌≡◌, ◌-◌, true, false, IsErrOf};
 ghost use Rattle.teb_rules.specs.declared.names.Reply.{Reply as TheReply};
 ghost use Rattle.teb_rules.specs.declared.names.Reply.TheVariants as replies;
 ghost use Rattle.teb_rules.specs.Answer.{answer};
-ghost use Rattle.hall_server.specs.Told.{events_after, told, IsToldBy};
+ghost use Rattle.hall_server.specs.Told.{told};
+ghost use Rattle.teb_rules.specs.Told.{IsToldBy, events_after};
 ghost use Rattle.hall_server.specs.declared.error.ServerError.TheVariants as failures;
-ghost use Rattle.hall_server.specs.declared.error.UnaskedError.TheVariants as faults;
+ghost use Rattle.hall_server.specs.declared.error.UnaskedError.TheVariants as unasked;
 ghost use Rattle.commit_journal.specs.Kept.{IsFull};
 ghost use Rattle.epoch_journal.specs.Layout.{half_size};
 
@@ -50,10 +51,10 @@ impl<C: Chains, D: Disk> Server for EngineStoreServer<C, D> {
         ensures store { self.new.store.engine.store ≡ self.old.store.engine.store }
         ensures names { self.new.store.engine.names ≡ self.old.store.engine.names }
         ensures unsure { (r : TheReply) → IsErrOf result (failures.Unsure r) → r ≡ replies.Committed }
-        ensures stopped { IsErrOf result (failures.Unasked faults.Stopped) → self.old.store.journal.stopped ≡ true }
-        ensures stays { self.old.store.journal.stopped ≡ true → IsErrOf result (failures.Unasked faults.Stopped) }
+        ensures stopped { IsErrOf result (failures.Unasked unasked.Stopped) → self.old.store.journal.stopped ≡ true }
+        ensures stays { self.old.store.journal.stopped ≡ true → IsErrOf result (failures.Unasked unasked.Stopped) }
         ensures stops { self.new.store.journal.stopped ≡ true → self.old.store.journal.stopped ≡ false → IsErrOf result (failures.Unsure replies.Committed) }
-        ensures full { IsErrOf result (failures.Unasked faults.Full)
+        ensures full { IsErrOf result (failures.Unasked unasked.Full)
             → IsFull self.old.store.engine.events (half_size self.old.store.journal.layout.capacity - self.old.store.journal.end) session request }
     {
         match self.store.ask(alloc, session, request) {

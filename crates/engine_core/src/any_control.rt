@@ -113,7 +113,6 @@ impl Control for AnyControl {
         }
     }
 
-    #[inline(always)]
     fn before_write<C: Chains>(
         &self,
         facts: &Facts,

@@ -32,7 +32,6 @@ pub fn read_stop<C: Chains>(access: &Access<'_, C>) -> Stop
 }
 
 /// Returns the stop of a write, whose version has, or would have, the place `at`.
-#[inline(always)]
 pub fn write_stop<C: Chains>(access: &Access<'_, C>, at: Option<usize>) -> Stop
     requires told { AreTold (store_in access.now.asking.now.view.now).setup (events_in access.now.asking.now.view.now) access.now.cell access.now.asking.now.txn.0 at
         (writers_of (C.lists access.now.asking.now.view.now.state.now.chains access.now.cell)) }

@@ -1,5 +1,6 @@
 -- No transaction began while a node told it to wait; so if the root is a leaf or admits one transaction per batch, each found its side idle.
-use Rattle.std.proofs.Common.{◌≡◌, ◌≢◌, ◌⊎◌, ℕ, suc, ◌+◌, fold, ◌<◌, ◌≤◌, Bool, true, false, not, cond, ◌&&◌, ◌||◌, eqb, ltb, leb, List, [], ◌∷◌, length, find, filter, count_by, Option, Some, None, refl, sym, ◌∙◌, ap, subst, inl, inr, arith, le_refl, lt-ltb, le-ltb, leb-true, le-leb, eq-eqb, ne_eqb}
+use Rattle.std.proofs.Common.{◌≡◌, ◌≢◌, ◌⊎◌, ℕ, suc, ◌+◌, fold, ◌<◌, ◌≤◌, Bool, true, false, not, cond, ◌&&◌, ◌||◌, eqb, ltb, leb, List, [], ◌∷◌, length, find, filter}
+use Rattle.std.proofs.Common.{count_by, Option, Some, None, refl, sym, ◌∙◌, ap, subst, inl, inr, arith, le_refl, lt-ltb, le-ltb, leb-true, le-leb, eq-eqb, ne_eqb}
 use Rattle.std.proofs.lemmas.Bool.{and_from, or_cases, both_ways, cases_Bool, cases_lt, not_from_false}
 use Rattle.teb_rules.specs.declared.names.Kind.{Kind}
 use Rattle.teb_rules.specs.declared.names.Session.{Session}

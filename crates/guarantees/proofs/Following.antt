@@ -26,7 +26,8 @@ use Rattle.teb_rules.specs.declared.Stop.TheVariants.{Go as Free, Wait as Waits,
 use Rattle.teb_rules.specs.Verdicts.{cause_at}
 use Rattle.teb_rules.specs.Stops.{access_stop, begin_stop, commit_stop, prepare_stop, scan_stop}
 use Rattle.teb_rules.specs.Cascade.{abort, txn}
-use Rattle.teb_rules.specs.Answer.{Answered, added, answer, answer_new, answer_of, answer_to, begin_or_wait, broken_off, cells_from, fits, is_scan, or_refused, or_stop, put_value, read_all, refuse, scan_values}
+use Rattle.teb_rules.specs.Answer.{Answered, added, answer, answer_new, answer_of, answer_to, begin_or_wait, broken_off}
+use Rattle.teb_rules.specs.Answer.{cells_from, fits, is_scan, or_refused, or_stop, put_value, read_all, refuse, scan_values}
 use Rattle.teb_rules.specs.Run.{history_after}
 use Rattle.std.proofs.Common.{unwrap_or}
 use Rattle.teb_rules.specs.laws.Laws.{reached}

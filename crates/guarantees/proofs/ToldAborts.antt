@@ -1,5 +1,6 @@
 -- What an answer says of an abort, and which transactions it aborts.
-use Rattle.std.proofs.Common.{◌≡◌, ◌≢◌, ◌⊎◌, ℕ, Bool, true, false, not, cond, ◌&&◌, ltb, leb, List, [], ◌∷◌, Option, Some, None, is_none, unwrap_or, refl, sym, ◌∙◌, ap, subst, inl, inr, ltb-true, eqb-true, eq-eqb, ℤ, ◌+ℤ◌}
+use Rattle.std.proofs.Common.{◌≡◌, ◌≢◌, ◌⊎◌, ℕ, Bool, true, false, not, cond, ◌&&◌, ltb, leb, List, [], ◌∷◌, Option, Some, None}
+use Rattle.std.proofs.Common.{is_none, unwrap_or, refl, sym, ◌∙◌, ap, subst, inl, inr, ltb-true, eqb-true, eq-eqb, ℤ, ◌+ℤ◌}
 use Rattle.std.proofs.lemmas.Bool.{and_parts, or_cases, both_ways}
 use Rattle.teb_rules.specs.declared.names.TheConstants.{MOST_TXNS, SESSIONS}
 use Rattle.teb_rules.proofs.lemmas.names.SameCells.{same_itself}
@@ -29,7 +30,8 @@ use Rattle.teb_rules.specs.declared.Stop.TheVariants.{Go as Free, Wait as Waits,
 use Rattle.teb_rules.specs.Verdicts.{cause_at}
 use Rattle.teb_rules.specs.Stops.{access_stop, begin_stop, commit_stop, prepare_stop, scan_stop}
 use Rattle.teb_rules.specs.Cascade.{abort, blamed, cascade, txn}
-use Rattle.teb_rules.specs.Answer.{Answered, added, answer, answer_new, answer_of, answer_to, begin_or_wait, broken_off, cells_from, fits, is_scan, or_refused, or_stop, put_value, read_all, refuse, scan_values}
+use Rattle.teb_rules.specs.Answer.{Answered, added, answer, answer_new, answer_of, answer_to, begin_or_wait, broken_off}
+use Rattle.teb_rules.specs.Answer.{cells_from, fits, is_scan, or_refused, or_stop, put_value, read_all, refuse, scan_values}
 use Rattle.teb_rules.specs.laws.Lawful.{Lawful}
 use Rattle.teb_rules.specs.laws.TreeFacts.{TreeFacts}
 use Rattle.teb_rules.proofs.lemmas.laws.Answers.{aborted_kept}

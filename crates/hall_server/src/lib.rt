@@ -6,7 +6,7 @@
 //! | `serve` returns | The history | |
 //! |---|---|---|
 //! | `Ok(reply)` | has the request | the reply is the one of the rules |
-//! | `Err(Unasked(fault))` | is as it was | an [`UnaskedError`]: an earlier failure of a device, no room for the commit, or out of memory |
+//! | `Err(Unasked(error))` | is as it was | an [`UnaskedError`]: an earlier failure of a device, no room for the commit, or out of memory |
 //! | `Err(Unsure(reply))` | has the request | the device failed at it, so what was committed may be kept or not |
 //!
 //! **What is proved.** The clauses of [`Server`] are what a hall builds on: each reply and each history is that of `answer`,

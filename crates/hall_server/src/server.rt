@@ -7,7 +7,8 @@ ghost use Rattle.teb_rules.specs.declared.history.Event.{Event};
 ghost use Rattle.teb_rules.specs.Setup.{Store};
 ghost use Rattle.teb_rules.specs.Answer.{answer};
 ghost use Rattle.teb_rules.specs.laws.Lawful.{Lawful};
-ghost use Rattle.hall_server.specs.Told.{events_after, told, IsToldBy};
+ghost use Rattle.hall_server.specs.Told.{told};
+ghost use Rattle.teb_rules.specs.Told.{IsToldBy, events_after};
 ghost use Rattle.hall_server.specs.declared.error.ServerError.TheVariants as failures;
 
 use crate::error::ServerError;

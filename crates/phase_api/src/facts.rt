@@ -57,6 +57,7 @@ impl<'a> Facts<'a> {
     }
 
     /// Returns the number of the side of a node on which a transaction is, or `None` if the node is not on its path.
+    #[inline(always)]
     pub fn side_on(&self, n: Node, t: Txn) -> Option<u32>
         requires { IsTyped self.now t.0 }
         ensures { result ≡ cond (on (setup_of self.now) (events_of self.now) n.0 t.0) (Some (side (setup_of self.now) (events_of self.now) n.0 t.0)) None }

@@ -1,5 +1,6 @@
 -- At the end of a replay nobody is unfinished, and every session was told of its abort.
-use Rattle.std.proofs.Common.{◌≡◌, ◌≢◌, ◌⊎◌, ℕ, ◌<◌, ◌≤◌, Bool, true, false, cond, ◌&&◌, leb, List, [], ◌∷◌, map, filter, is_some, Option, Some, None, refl, sym, ◌∙◌, ap, subst, inl, inr, arith, eqb-true, le-leb}
+use Rattle.std.proofs.Common.{◌≡◌, ◌≢◌, ◌⊎◌, ℕ, ◌<◌, ◌≤◌, Bool, true, false, cond, ◌&&◌, leb, List, [], ◌∷◌, map, filter}
+use Rattle.std.proofs.Common.{is_some, Option, Some, None, refl, sym, ◌∙◌, ap, subst, inl, inr, arith, eqb-true, le-leb}
 use Rattle.std.specs.Prelude.{unwrap_or}
 use Rattle.std.proofs.lemmas.Bool.{both_ways, cases_eq, false_from_ne_true, and_parts}
 use Rattle.teb_rules.specs.declared.names.TheConstants.{SESSIONS}
@@ -30,7 +31,7 @@ use Rattle.driver_laws.proofs.Bound.{unfinished_holds}
 use Rattle.script_text.specs.declared.Line.{Line}
 use Rattle.script_runner.specs.replay.Logs.{replayed, requests_of}
 use Rattle.script_runner.proofs.lemmas.replay.Logged.{history_append}
-use Rattle.tree_switch.specs.Refusals.{IsDrained}
+use Rattle.teb_rules.specs.Epochs.{IsDrained}
 
 -- session s holds nothing
 abbrev IsFree : List Event → ℕ → Type 0

@@ -3,10 +3,10 @@ use Rattle.std.proofs.Common.{◌≡◌, ℕ, List, [], ◌∷◌, ◌++◌, len
 use Rattle.std.proofs.lemmas.List.{append-nil}
 use Rattle.teb_rules.specs.declared.names.naming.NameBook.{NameBook}
 use Rattle.teb_rules.specs.Setup.{Store}
-use Rattle.serial_order.specs.Tables.{IsFinalRows}
+use Rattle.teb_rules.specs.Epochs.{AreFinalRows, IsDrained}
 use Rattle.engine_core.specs.EngineModel.{EngineModel}
 use Rattle.tree_switch.specs.Courses.{Course, IsCourse, phases}
-use Rattle.tree_switch.specs.Refusals.{IsDrained, MaySwitch}
+use Rattle.tree_switch.specs.Refusals.{MaySwitch}
 use Rattle.tree_switch.proofs.WholeOrder.{is_serial}
 use Rattle.input_reader.specs.Tasks.{Task}
 use Rattle.phase_runner.specs.Runs.{RunFrom, RunInTurn, Table}
@@ -14,7 +14,7 @@ use Rattle.phase_runner.specs.Steps.{AllFollow, AreFollowing, HasRun}
 
 -- the rows that an engine leaves
 abbrev pub Leaves : EngineModel → Table → Type 0
-Leaves e rows = IsFinalRows e.store e.events rows
+Leaves e rows = AreFinalRows e.store e.events rows
 
 -- the first task starts with its own rows
 abbrev pub RunAll : List Task → List EngineModel → List ℕ → Type 0
@@ -39,7 +39,7 @@ module _ (rows : Table) (task : Task) (later : List Task) (p : Course) (old new 
     back = back;
     store = h.store;
     phase = h.phase;
-    final = subst (λ (X : Store). IsFinalRows X p.present.events R) h.store leaves;
+    final = subst (λ (X : Store). AreFinalRows X p.present.events R) h.store leaves;
     follows = run;
     joined = refl;
   }
@@ -60,7 +60,7 @@ module _ (rows : Table) (task : Task) (later : List Task) (p : Course) (old new 
       drained = h.drained;
       follow = subst (λ (b : NameBook). AllFollow b.tables later) (sym h.names) follow;
       rows = h.phase.told.rows;
-      left = subst (λ (X : Store). IsFinalRows X p.present.events h.phase.told.rows) (sym h.store) h.phase.told.final;
+      left = subst (λ (X : Store). AreFinalRows X p.present.events h.phase.told.rows) (sym h.store) h.phase.told.final;
       goes = behind_report;
     }
 

@@ -6,7 +6,7 @@ use Rattle.teb_rules.specs.declared.history.Event.{Event}
 use Rattle.teb_rules.specs.Setup.{Setup as Rules, Store}
 use Rattle.teb_rules.specs.Accepted.{IsSound}
 use Rattle.teb_rules.specs.Run.{history_after}
-use Rattle.serial_order.specs.Tables.{IsFinalRows}
+use Rattle.teb_rules.specs.Epochs.{AreFinalRows, IsDrained}
 use Rattle.script_text.specs.declared.Line.{Line}
 use Rattle.script_text.specs.declared.Answered.{Answered}
 use Rattle.script_runner.specs.replay.Logs.{log_of, replayed}
@@ -18,7 +18,7 @@ use Rattle.store_setup.specs.Stores as engine
 use Rattle.tree_switch.specs.Courses.{Course, IsCourse}
 use Rattle.tree_switch.specs.declared.error.SwitchError.{SwitchError}
 use Rattle.tree_switch.specs.declared.error.SwitchError.TheVariants.{Again, Untold, Tables, Rows, OutOfMemory}
-use Rattle.tree_switch.specs.Refusals.{IsCause, IsDrained, MaySwitch}
+use Rattle.tree_switch.specs.Refusals.{IsCause, MaySwitch}
 use Rattle.tree_switch.specs.Starts.{IsStarted}
 use Rattle.tree_switch.proofs.GoingOn.{further}
 use Rattle.tree_switch.proofs.Starting.{present}
@@ -136,9 +136,9 @@ pub phase_run : (rows : Table) (task : Task) (e : EngineModel) (lines : List Lin
 phase_run rows task e lines old new (Ok p) q n l store names drained report = has_run rows task e p.present lines old new q n l store names drained report
 phase_run rows task e lines old new (Err w) q n l store names drained report = tt
 
-pub from_rows : (task : Task) (before : EngineModel) (rows : Table) (old new : List ℕ) (r : Result Course AllocError) → IsFinalRows before.store before.events rows
+pub from_rows : (task : Task) (before : EngineModel) (rows : Table) (old new : List ℕ) (r : Result Course AllocError) → AreFinalRows before.store before.events rows
     → IfOk r (λ p. HasRun rows task p.present old new)
-    → IfOk r (λ p. (x : Table) × IsFinalRows before.store before.events x × HasRun x task p.present old new)
+    → IfOk r (λ p. (x : Table) × AreFinalRows before.store before.events x × HasRun x task p.present old new)
 from_rows task before rows old new (Ok p) final h = (rows, final, h)
 from_rows task before rows old new (Err w) final h = tt
 

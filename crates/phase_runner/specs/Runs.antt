@@ -5,7 +5,7 @@ use Rattle.teb_rules.specs.declared.names.naming.NameBook.{NameBook}
 use Rattle.teb_rules.specs.declared.history.Event.{Event}
 use Rattle.teb_rules.specs.Setup.{Store}
 use Rattle.engine_core.specs.EngineModel.{EngineModel}
-use Rattle.serial_order.specs.Tables.{IsFinalRows}
+use Rattle.teb_rules.specs.Epochs.{AreFinalRows}
 use Rattle.tree_switch.specs.Courses.{Course, phases}
 use Rattle.tree_switch.specs.Serial.{IsSerial}
 use Rattle.script_text.specs.declared.Line.{Line}
@@ -39,7 +39,7 @@ pub record IsFollowed (rows : Table) (task : Task) (e : EngineModel) (Follows : 
   pub back : List ℕ
   pub store : e.store ≡ store_of_view (starting_with rows task.setup)
   pub phase : IsPhase (store_of_view (starting_with rows task.setup)) (names_of task.setup) task.lines e.events front
-  pub final : IsFinalRows (store_of_view (starting_with rows task.setup)) e.events left
+  pub final : AreFinalRows (store_of_view (starting_with rows task.setup)) e.events left
   pub follows : Follows left back
   pub joined : text ≡ front ++ back
 

@@ -1,7 +1,7 @@
 -- What one phase comes to, and which tasks may follow.
 use Rattle.std.specs.Prelude.{◌≡◌, ℕ, List, [], ◌∷◌, ◌++◌}
 use Rattle.engine_core.specs.EngineModel.{EngineModel}
-use Rattle.tree_switch.specs.Refusals.{IsDrained}
+use Rattle.teb_rules.specs.Epochs.{IsDrained}
 use Rattle.store_setup.specs.Stores.{store_of_view, names_of}
 use Rattle.input_reader.specs.Tasks.{Task}
 use Rattle.phase_runner.specs.Runs.{Table, starting_with, IsPhase}

@@ -2,11 +2,11 @@
 
 ghost use Rattle.std.specs.Prelude.{◌≡◌, ◌++◌, ◌∷◌, [], length, IfOk, OnOk};
 ghost use Rattle.teb_rules.specs.declared.names.Cell.{Cell};
-ghost use Rattle.serial_order.specs.Tables.{IsFinalRows};
+ghost use Rattle.teb_rules.specs.Epochs.{AreFinalRows, IsDrained};
 ghost use Rattle.store_setup.specs.SetupView.{setup_view};
 ghost use Rattle.store_setup.specs.Sound.{IsWhole};
 ghost use Rattle.tree_switch.specs.Courses.{IsCourse};
-ghost use Rattle.tree_switch.specs.Refusals.{IsDrained, MaySwitch};
+ghost use Rattle.tree_switch.specs.Refusals.{MaySwitch};
 ghost use Rattle.tree_switch.specs.Starts.{IsStarted};
 ghost use Rattle.phase_runner.specs.Runs.{IsPhase};
 ghost use Rattle.phase_runner.specs.Steps.{HasRun};
@@ -58,7 +58,7 @@ pub fn next_phase<C: Chains>(
     requires may { MaySwitch phases.present task.setup }
     ensures course { IfOk result IsCourse }
     ensures past { IfOk result (λ p. p.past ≡ phases.past ++ phases.present ∷ []) }
-    ensures run { IfOk result (λ p. (rows : _) × IsFinalRows phases.present.store phases.present.events rows × HasRun rows task p.present text.old.items text.new.items) }
+    ensures run { IfOk result (λ p. (rows : _) × AreFinalRows phases.present.store phases.present.events rows × HasRun rows task p.present text.old.items text.new.items) }
 {
     let (setup, lines) = task.into_parts();
     switch(alloc, &mut phases, setup, chains)?;

@@ -9,7 +9,7 @@ use Rattle.teb_rules.specs.declared.history.Event.{Event}
 use Rattle.teb_rules.specs.Setup.{Store}
 use Rattle.teb_rules.specs.Ranks.{serial_order}
 use Rattle.serial_order.specs.Commits.{txn_numbers}
-use Rattle.serial_order.specs.Tables.{IsFinalRows}
+use Rattle.teb_rules.specs.Epochs.{AreFinalRows}
 use Rattle.script_text.specs.Texts.{starts_text, event_text, report_text}
 use Rattle.audit_law.specs.Printed.{AreNames}
 
@@ -18,7 +18,7 @@ pub record IsReportAfter (front : List ℕ) (X : Store) (names : NameBook) (H : 
   pub order : List Txn
   pub rows : List (Cell × ℤ)
   pub ordered : txn_numbers order ≡ serial_order X.setup H
-  pub final : IsFinalRows X H rows
+  pub final : AreFinalRows X H rows
   pub joined : text ≡ front ++ report_text names order rows
 
 -- the start lines and the event lines, the oldest event first

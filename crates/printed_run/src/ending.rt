@@ -2,7 +2,7 @@
 
 ghost use Rattle.std.specs.Prelude.{◌≡◌, OnErr, OnOk};
 ghost use Rattle.script_text.specs.Named.{RowsNamed};
-ghost use Rattle.serial_order.specs.Tables.{IsFinalRows};
+ghost use Rattle.teb_rules.specs.Epochs.{AreFinalRows};
 ghost use Rattle.printed_run.specs.Printed.{IsReportAfter};
 
 use engine_core::Engine;
@@ -20,7 +20,7 @@ pub fn put_ending<C: Chains>(
     out: &mut Vec<u8>,
     engine: &Engine<C>,
 ) -> Result<(), AllocError>
-    requires { (rows : _) → IsFinalRows engine.now.store engine.now.events rows → RowsNamed engine.now.names rows }
+    requires { (rows : _) → AreFinalRows engine.now.store engine.now.events rows → RowsNamed engine.now.names rows }
     ensures ok { OnOk result (IsReportAfter out.old.items engine.now.store engine.now.names engine.now.events out.new.items) }
     ensures err { OnErr result (out.new.items ≡ out.old.items) }
 {

@@ -1,5 +1,6 @@
 -- What was written is read back.
-use Rattle.std.proofs.Common.{◌≡◌, ◌≢◌, inl, inr, ℕ, zero, suc, ◌+◌, ◌-◌, ◌*◌, ◌<◌, ◌≤◌, ◌^◌, ltb, List, [], ◌∷◌, ◌++◌, length, take, Option, Some, None, ℤ, pos, negsuc, refl, sym, ◌∙◌, ap, arith, append_assoc, length-append}
+use Rattle.std.proofs.Common.{◌≡◌, ◌≢◌, inl, inr, ℕ, zero, suc, ◌+◌, ◌-◌, ◌*◌, ◌<◌, ◌≤◌, ◌^◌, ltb, List, [], ◌∷◌, ◌++◌, length}
+use Rattle.std.proofs.Common.{take, Option, Some, None, ℤ, pos, negsuc, refl, sym, ◌∙◌, ap, arith, append_assoc, length-append}
 use Rattle.std.specs.Prelude.{IfSome, FitsSigned}
 use Rattle.std.specs.List.{AllByRecursion}
 use Rattle.std.specs.Int.{w32, w64, to_be_bytes, from_be_bytes, cast_unsigned, cast_signed}
@@ -9,7 +10,8 @@ use Rattle.std.proofs.lemmas.List.{append-nil}
 use Rattle.std.proofs.lemmas.Nat.{from_be_bytes-to_be_bytes_4, from_be_bytes-to_be_bytes_8}
 use Rattle.std.proofs.lemmas.Int.{to_z-of_z}
 use Rattle.record_journal.specs.declared.change.Change.{Change}
-use Rattle.record_journal.specs.Format.{Record, entry, entries, body, records, ChangeFits, RecordFits, tag_of, number_of, value_of_tag, with_cell, change_of, follow, changes_of, record_of, Reading, Whole, push, size, after_gate, reading, recovered}
+use Rattle.record_journal.specs.Format.{Record, entry, entries, body, records, ChangeFits, RecordFits, tag_of, number_of, value_of_tag, with_cell}
+use Rattle.record_journal.specs.Format.{change_of, follow, changes_of, record_of, Reading, Whole, push, size, after_gate, reading, recovered}
 use Rattle.record_journal.specs.Journal.{IsBeforeOrAfter}
 
 -- ---- a change

@@ -1,5 +1,6 @@
 -- Texts that are written whole or not at all.
-use Rattle.std.proofs.Common.{◌≡◌, ℕ, ◌+◌, ◌-◌, ◌<◌, ℤ, Option, Some, slice_get, drop, map, if◌then◌else◌, List, [], ◌∷◌, ◌++◌, codes, Result, Ok, Err, is_ok, take, length, refl, sym, ap, ◌∙◌, append_assoc, arith}
+use Rattle.std.proofs.Common.{◌≡◌, ℕ, ◌+◌, ◌-◌, ◌<◌, ℤ, Option, Some, slice_get, drop, map, if◌then◌else◌, List, [], ◌∷◌}
+use Rattle.std.proofs.Common.{◌++◌, codes, Result, Ok, Err, is_ok, take, length, refl, sym, ap, ◌∙◌, append_assoc, arith}
 use Rattle.std.specs.Result.{OnOk, OnErr}
 use Rattle.std.specs.List.{join_with_byte}
 use Rattle.std.proofs.lemmas.List.{take_at, append-nil, drop_more}

@@ -1,5 +1,6 @@
 -- The words of a line, one after the other.
-use Rattle.std.proofs.Common.{ap₂, ◌-◌, length-drop, ◌≡◌, ℕ, suc, ◌+◌, ◌<◌, ◌≤◌, ◌==◌, Bool, true, false, if◌then◌else◌, not, inl, inr, List, [], ◌∷◌, ◌++◌, take, drop, set, length, refl, ap, sym, ◌∙◌, arith, take_all, get_or, drop_of_length-le, append_assoc}
+use Rattle.std.proofs.Common.{ap₂, ◌-◌, length-drop, ◌≡◌, ℕ, suc, ◌+◌, ◌<◌, ◌≤◌, ◌==◌, Bool, true, false, if◌then◌else◌, not, inl, inr, List, []}
+use Rattle.std.proofs.Common.{◌∷◌, ◌++◌, take, drop, set, length, refl, ap, sym, ◌∙◌, arith, take_all, get_or, drop_of_length-le, append_assoc}
 use Rattle.std.specs.Borrow.{Bor}
 use Rattle.std.specs.List.{slice_split, position_or_len}
 use Rattle.std.proofs.lemmas.Bool.{cases_lt}

@@ -1,5 +1,6 @@
 -- Keys compare in the same way if they are cut after the first rank that is a Done, which no two transactions share.
-use Rattle.std.proofs.Common.{◌≡◌, ◌≢◌, ◌⊎◌, ℕ, ◌<◌, Bool, true, false, cond, ◌&&◌, ◌||◌, eqb, ltb, List, [], ◌∷◌, ◌++◌, length, refl, sym, ◌∙◌, ap, subst, subst₂, inl, inr, arith, append_assoc, eqb-true, ne_eqb}
+use Rattle.std.proofs.Common.{◌≡◌, ◌≢◌, ◌⊎◌, ℕ, ◌<◌, Bool, true, false, cond, ◌&&◌, ◌||◌, eqb, ltb, List, [], ◌∷◌, ◌++◌}
+use Rattle.std.proofs.Common.{length, refl, sym, ◌∙◌, ap, subst, subst₂, inl, inr, arith, append_assoc, eqb-true, ne_eqb}
 use Rattle.teb_rules.specs.declared.names.Spot.{Spot}
 use Rattle.teb_rules.specs.declared.names.ControlKind.{ControlKind}
 use Rattle.teb_rules.specs.declared.names.ControlKind.TheVariants.{Locks, Pipeline, Timestamp, Snapshot}

@@ -15,7 +15,7 @@ use Rattle.teb_rules.specs.Versions.{value_left}
 use Rattle.teb_rules.specs.Serializes.{final_table, value_of}
 use Rattle.teb_rules.specs.laws.Within.{CellWithin, AllWithin}
 use Rattle.teb_rules.proofs.lemmas.names.SameCells.{same_cell-true}
-use Rattle.serial_order.specs.Tables.{IsFinalRows}
+use Rattle.teb_rules.specs.Epochs.{AreFinalRows}
 
 -- if all rows are of the first tables, so is each cell that has a row
 pub row_within : (tables : ℕ) (rows : List (Cell × ℤ)) (x : Cell) (v : ℤ) → All (λ (r : Cell × ℤ). r.0.table.0 < tables) rows → row_of rows x ≡ Some v → x.table.0 < tables
@@ -60,7 +60,7 @@ module _ (X : Store) where
 
   -- if all starting rows and events are of the store's tables, so are the final rows
   pub rows_within : (H : List Event) (rows : List (Cell × ℤ)) → ((x : Cell) (v : ℤ) → row_of X.rows x ≡ Some v → CellWithin X x)
-      → AllWithin X H → IsFinalRows X H rows → All (λ (r : Cell × ℤ). CellWithin X r.0) rows
+      → AllWithin X H → AreFinalRows X H rows → All (λ (r : Cell × ℤ). CellWithin X r.0) rows
   rows_within H rows start h f k d low =
       let r = get_or rows k d in
       final_within H r.0 r.1 h (start r.0 r.1) (sym (f.each r.0) ∙ row_of_tied rows k d r.0 f.ascending low (tied_itself cell_cmp_total r.0))

@@ -5,18 +5,13 @@ use Rattle.std.specs.declared.cmp.Ordering.TheVariants.{Less, Equal, Greater}
 use Rattle.std.specs.List.Sorted.{IsStrictlySortedBy}
 use Rattle.teb_rules.specs.declared.names.Cell.{Cell}
 use Rattle.teb_rules.specs.names.Cells.{same_cell, cell_cmp}
-use Rattle.teb_rules.specs.names.Rows.{row_of, IsAscending}
+use Rattle.teb_rules.specs.names.Rows.{row_of}
 use Rattle.teb_rules.specs.declared.history.Event.{Event}
 use Rattle.teb_rules.specs.declared.history.Event.TheVariants.{Put}
 use Rattle.teb_rules.specs.Setup.{Store}
 use Rattle.teb_rules.specs.Serializes.{final_table}
 use Rattle.phase_api.specs.declared.facts.Facts.{Facts}
 use Rattle.phase_api.specs.FactsView.{setup_of, events_of}
-
--- the rows, in ascending order of cells, are those of the final table
-pub record IsFinalRows (X : Store) (H : List Event) (rows : List (Cell × ℤ)) : Type 0 where
-  pub ascending : IsAscending rows
-  pub each : (x : Cell) → row_of rows x ≡ final_table X H x
 
 -- the store with this many tables and these starting rows
 abbrev pub store_with : Facts → List (Cell × ℤ) → ℕ → Store

@@ -6,7 +6,8 @@ ghost use Rattle.teb_rules.specs.names.Rows.{IsAscending};
 ghost use Rattle.teb_rules.specs.history.Phases.{begun_count, committed};
 ghost use Rattle.version_chain.specs.Lists.{writers_of, last_place};
 ghost use Rattle.phase_api.specs.FactsView.{events_of};
-ghost use Rattle.serial_order.specs.Tables.{cells_put, rows_before, rows_behind, merged_rows, AreCells, IsFinalRows};
+ghost use Rattle.serial_order.specs.Tables.{cells_put, rows_before, rows_behind, merged_rows, AreCells};
+ghost use Rattle.teb_rules.specs.Epochs.{AreFinalRows};
 ghost use Rattle.serial_order.specs.Seen.{IsSound, AddsAll};
 
 use crate::end_state::EndState;
@@ -28,7 +29,7 @@ use version_chain::{Chains, Found};
 /// # Errors
 /// Out of memory.
 pub fn tables<C: Chains>(alloc: Global, engine: &Engine<C>) -> Result<Vec<(Cell, i64)>, AllocError>
-    ensures { IfOk result (λ v. IsFinalRows engine.now.store engine.now.events v.items) }
+    ensures { IfOk result (λ v. AreFinalRows engine.now.store engine.now.events v.items) }
 {
     let setup = engine.setup();
     let facts = Facts {
@@ -50,7 +51,7 @@ impl<'a, C: Chains> EndState<'a, C> {
 
     // Returns the rows of the final tables, with any number of tables.
     fn rows_left(&self, alloc: Global) -> Result<Vec<(Cell, i64)>, AllocError>
-        ensures { (tables : ℕ) → IfOk result (λ v. IsFinalRows (store self.now tables) (events_of self.now.facts.now) v.items) }
+        ensures { (tables : ℕ) → IfOk result (λ v. AreFinalRows (store self.now tables) (events_of self.now.facts.now) v.items) }
     {
         let cells = self.cells(alloc)?;
         self.rows_of(alloc, &cells)

@@ -55,7 +55,7 @@ impl<S: Server> HallOf<S> {
         match answer {
             Ok(reply) => Ok(reply),
             Err(ServerError::Unsure(reply)) => Err(ServeError::Unsure(reply)),
-            Err(ServerError::Unasked(fault)) => Err(ServeError::Unasked(fault)),
+            Err(ServerError::Unasked(error)) => Err(ServeError::Unasked(error)),
         }
     }
 }

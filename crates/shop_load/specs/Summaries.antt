@@ -5,7 +5,7 @@ use Rattle.teb_rules.specs.declared.names.Cell.{Cell}
 use Rattle.teb_rules.specs.declared.history.Event.{Event}
 use Rattle.teb_rules.specs.history.Phases.{txns, committed, aborted}
 use Rattle.teb_rules.specs.Setup.{Store}
-use Rattle.serial_order.specs.Tables.{IsFinalRows}
+use Rattle.teb_rules.specs.Epochs.{AreFinalRows}
 use Rattle.script_text.specs.declared.Answered.{Answered}
 use Rattle.script_text.specs.Texts.{line_text}
 
@@ -41,5 +41,5 @@ summary_text number size H log rows =
 
 pub record IsSummary (number size : ℕ) (X : Store) (H : List Event) (log : List Answered) (bytes : List ℕ) : Type 0 where
   pub rows : List (Cell × ℤ)
-  pub final : IsFinalRows X H rows
+  pub final : AreFinalRows X H rows
   pub text : bytes ≡ summary_text number size H log rows

@@ -14,7 +14,8 @@ use Rattle.teb_rules.specs.laws.Lawful.{Lawful}
 use Rattle.teb_rules.specs.laws.TreeFacts.{TreeFacts}
 use Rattle.phase_api.specs.FactsView.{IsOrderly}
 use Rattle.snapshot_node.specs.Standing.{writers_in}
-use Rattle.snapshot_node.specs.Pivots.{IsLeast, IsLeastEdge, IsLeastEdgeAside, IsLeastEdgeFrom, IsLeastAside, IsMateAmong, IsMateByPut, EntersAt, Leads, Leaves, Reaches, ReachesOne, lesser_of, earlier_of}
+use Rattle.snapshot_node.specs.Pivots.{IsLeast, IsLeastEdge, IsLeastEdgeAside, IsLeastEdgeFrom, IsLeastAside, IsMateAmong}
+use Rattle.snapshot_node.specs.Pivots.{IsMateByPut, EntersAt, Leads, Leaves, Reaches, ReachesOne, lesser_of, earlier_of}
 use Rattle.snapshot_node.proofs.Least.{least_as, Along}
 use Rattle.snapshot_node.proofs.Middles.{Both, both_from, both_to}
 use Rattle.snapshot_node.proofs.Accessed.{accesses_of}

@@ -1,6 +1,7 @@
 -- The marks after one more event: marks of earlier edges stay, and those of the transaction that the event validates are set.
 use Rattle.std.specs.Prelude.{IsTrue}
-use Rattle.std.proofs.Common.{◌≡◌, ℕ, zero, suc, ◌<◌, ◌≤◌, min, Bool, true, false, ◌||◌, eqb, ltb, List, [], ◌∷◌, ◌++◌, Some, refl, sym, ◌∙◌, ap, subst, inl, inr, arith, length, get_or, lt-ltb, le-ltb, ltb-true, length-append, le_refl, eqb-true}
+use Rattle.std.proofs.Common.{◌≡◌, ℕ, zero, suc, ◌<◌, ◌≤◌, min, Bool, true, false, ◌||◌, eqb, ltb, List, [], ◌∷◌, ◌++◌, Some, refl, sym}
+use Rattle.std.proofs.Common.{◌∙◌, ap, subst, inl, inr, arith, length, get_or, lt-ltb, le-ltb, ltb-true, length-append, le_refl, eqb-true}
 use Rattle.std.proofs.lemmas.Bool.{cases_lt, both_ways, and_parts, and_from, or_cases, or_left, or_right}
 use Rattle.teb_rules.specs.declared.names.Txn.{Txn}
 use Rattle.teb_rules.specs.declared.names.Cell.{Cell}

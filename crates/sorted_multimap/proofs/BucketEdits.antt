@@ -1,5 +1,6 @@
 -- How an edit of the two lists of a bucket changes its values.
-use Rattle.std.proofs.Common.{◌≡◌, ◌==◌, ℕ, zero, suc, ◌+◌, ◌-◌, ◌<◌, ◌≤◌, inl, inr, Bool, true, false, not, ltb, List, [], ◌∷◌, ◌++◌, cond, length, set, take, drop, Result, Ok, Err, MatchResult, vec_len, vec_capacity, refl, sym, ◌∙◌, ap, subst, arith}
+use Rattle.std.proofs.Common.{◌≡◌, ◌==◌, ℕ, zero, suc, ◌+◌, ◌-◌, ◌<◌, ◌≤◌, inl, inr, Bool, true, false, not, ltb, List, [], ◌∷◌, ◌++◌, cond}
+use Rattle.std.proofs.Common.{length, set, take, drop, Result, Ok, Err, MatchResult, vec_len, vec_capacity, refl, sym, ◌∙◌, ap, subst, arith}
 use Rattle.std.specs.declared.cmp.Ordering.{Ordering}
 use Rattle.std.specs.Vec.{with_item}
 use Rattle.std.specs.Cmp.{IsTotalOrder}
@@ -13,7 +14,8 @@ use Rattle.sorted_multimap.specs.declared.bucket.Bucket.{Bucket}
 use Rattle.sorted_multimap.specs.Buckets.{values_beside, bucket_values, Ascends, lows, tops, IsSorted, IsEdited}
 use Rattle.sorted_multimap.specs.Places.{IsFound, IsMissing}
 use Rattle.sorted_multimap.proofs.NumberedValues.{without, without_missing, without_found}
-use Rattle.sorted_multimap.proofs.SortedEntries.{lows_tops, tops_length, values_range, values_length, values_kept, values_insert, values_set, values_remove, values_cut, ascends_insert, ascends_remove, ascends_cut}
+use Rattle.sorted_multimap.proofs.SortedEntries.{lows_tops, tops_length, values_range, values_length, values_kept, values_insert}
+use Rattle.sorted_multimap.proofs.SortedEntries.{values_set, values_remove, values_cut, ascends_insert, ascends_remove, ascends_cut}
 
 insert_end : {A : Type 0} (xs : List A) (v : A) → insert xs (length xs) v ≡ xs ++ v ∷ []
 insert_end [] v = refl

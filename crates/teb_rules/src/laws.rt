@@ -25,7 +25,8 @@
 //! **Not claimed**: that a transaction ever commits (it may be aborted again and again); anything of what an aborted transaction
 //! read; anything of stores that are not sound.
 
-ghost use Rattle.teb_rules.specs.laws.Laws.{OfEveryRun, OfEveryStore, EveryRunSerializes, OrdersVersions, OrdersConflicts, RanksAgree, BatchesNest, SessionsHoldOne, CascadesAreFew, WaitsForOlder, OnlyGrows, ReadsAreStable, ServesAlone};
+ghost use Rattle.teb_rules.specs.laws.Laws.{OfEveryRun, OfEveryStore, EveryRunSerializes, OrdersVersions, OrdersConflicts, RanksAgree};
+ghost use Rattle.teb_rules.specs.laws.Laws.{BatchesNest, SessionsHoldOne, CascadesAreFew, WaitsForOlder, OnlyGrows, ReadsAreStable, ServesAlone};
 ghost use Rattle.teb_rules.specs.laws.Pivots.{HoldsNoPivot};
 ghost use Rattle.teb_rules.specs.laws.Within.{StaysWithin};
 

@@ -1,5 +1,6 @@
 -- The leaves of a type, and the paths to them.
-use Rattle.std.proofs.Common.{◌≡◌, ℕ, suc, ◌+◌, ◌<◌, Bool, true, false, cond, not, ◌&&◌, ◌||◌, eqb, List, [], ◌∷◌, ◌++◌, length, find, Option, Some, None, unwrap_or, refl, sym, ◌∙◌, ap, subst, arith, eq-eqb, IsTrue}
+use Rattle.std.proofs.Common.{◌≡◌, ℕ, suc, ◌+◌, ◌<◌, Bool, true, false, cond, not, ◌&&◌, ◌||◌, eqb, List, [], ◌∷◌, ◌++◌}
+use Rattle.std.proofs.Common.{length, find, Option, Some, None, unwrap_or, refl, sym, ◌∙◌, ap, subst, arith, eq-eqb, IsTrue}
 use Rattle.std.specs.Prelude.{IfSome}
 use Rattle.std.proofs.lemmas.Bool.{and_parts, and_from, false≢true}
 use Rattle.std.proofs.lemmas.List.Folds.{list_all-append}

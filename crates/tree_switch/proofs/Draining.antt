@@ -13,7 +13,7 @@ use Rattle.teb_rules.specs.Setup.{Setup}
 use Rattle.teb_rules.specs.laws.Lawful.{Lawful}
 use Rattle.teb_rules.proofs.lemmas.laws.Holding.{Holds, held_holds, holds_cases, none_holds}
 use Rattle.teb_rules.proofs.lemmas.laws.Reachable.{untold_gone}
-use Rattle.tree_switch.specs.Refusals.{IsDrained}
+use Rattle.teb_rules.specs.Epochs.{IsDrained}
 
 has_none : (n : ℕ) → has n [] ≡ false
 unfolding has

@@ -11,7 +11,7 @@ use Rattle.teb_rules.specs.Answer.{answer}
 use Rattle.teb_rules.specs.Replay.{Values}
 use Rattle.teb_rules.specs.laws.Within.{StaysWithin}
 use Rattle.teb_rules.proofs.lemmas.laws.Within.{stays_within}
-use Rattle.serial_order.specs.Tables.{IsFinalRows}
+use Rattle.teb_rules.specs.Epochs.{AreFinalRows}
 use Rattle.serial_order.proofs.Within.{rows_within, row_within}
 use Rattle.store_setup.specs.declared.Setup.{Setup}
 use Rattle.store_setup.specs.SetupView.{setup_view}
@@ -26,7 +26,7 @@ use Rattle.tree_switch.specs.Starts.{IsStarted}
 
 -- the final rows of an engine are in its tables, and so in those of a setup with the same table names
 pub left_within : (e : EngineModel) (s t : Setup) → IsOfEngine e → store_of s ≡ e.store → s.names ≡ e.names → IsWhole (setup_view s) → t.names.tables ≡ e.names.tables → (rows : List (Cell × ℤ))
-    → IsFinalRows e.store e.events rows
+    → AreFinalRows e.store e.events rows
     → All (λ (r : Cell × ℤ). r.0.table.0 < length t.names.tables) rows
 left_within e s t i q n w same rows f =
     let within : All (λ (r : Cell × ℤ). r.0.table.0 < e.store.tables) rows = rows_within e.store e.events rows

@@ -1,7 +1,8 @@
 -- Why a phase may not be followed by the next.
-use Rattle.std.specs.Prelude.{◌≡◌, ◌≢◌, ℕ, ◌<◌, ◌≤◌, List, [], Some, MatchResult, Result, IsTrue}
+use Rattle.std.specs.Prelude.{◌≡◌, ◌≢◌, ℕ, ◌<◌, ◌≤◌, List, [], MatchResult, Result, IsTrue}
 use Rattle.teb_rules.specs.declared.history.Event.{Event}
-use Rattle.teb_rules.specs.history.Phases.{begun_count, unfinished, aborted, held}
+use Rattle.teb_rules.specs.history.Phases.{begun_count, unfinished}
+use Rattle.teb_rules.specs.Epochs.{IsDrained, IsUntold}
 use Rattle.engine_core.specs.EngineModel.{EngineModel}
 use Rattle.store_setup.specs.SetupView.{SetupView}
 use Rattle.tree_switch.specs.declared.error.SwitchError.{SwitchError}
@@ -15,22 +16,12 @@ IsLeast P n = P n × ((m : ℕ) → m < n → ¬ P m)
 abbrev pub IsUnfinished : List Event → ℕ → Type 0
 IsUnfinished H t = IsTrue (unfinished H t)
 
--- session s holds an aborted transaction
-pub record IsUntold (H : List Event) (s : ℕ) : Type 0 where
-  pub txn : ℕ
-  pub holds : held H s ≡ Some txn
-  pub gone : IsTrue (aborted H txn)
-
 -- no transaction is unfinished, and each session was told of its abort
 abbrev pub AllFinished : List Event → Type 0
 AllFinished H = (t : ℕ) → ¬ IsUnfinished H t
 
 abbrev pub AllTold : List Event → Type 0
 AllTold H = (s : ℕ) → ¬ IsUntold H s
-
-pub record IsDrained (H : List Event) : Type 0 where
-  pub finished : AllFinished H
-  pub told : AllTold H
 
 -- transactions are numbered from 1 to `begun_count`, and sessions from 1 to SESSIONS
 abbrev pub AreNumbered : List Event → Type 0

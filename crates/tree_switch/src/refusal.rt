@@ -2,7 +2,8 @@
 
 ghost use Rattle.std.specs.Prelude.{◌↔◌, MatchOption, IsTrue};
 ghost use Rattle.store_setup.specs.SetupView.{setup_view};
-ghost use Rattle.tree_switch.specs.Refusals.{IsLeast, IsUnfinished, IsUntold, AllFinished, AllTold, AreNumbered, AreOfSessions, IsDrained, IsRefusedBy};
+ghost use Rattle.tree_switch.specs.Refusals.{IsLeast, IsUnfinished, AllFinished, AllTold, AreNumbered, AreOfSessions, IsRefusedBy};
+ghost use Rattle.teb_rules.specs.Epochs.{IsDrained, IsUntold};
 
 use crate::error::SwitchError;
 use crate::names::same_names;

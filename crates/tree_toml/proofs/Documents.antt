@@ -11,7 +11,8 @@ use Rattle.store_setup.specs.declared.Setup.{Setup}
 use Rattle.tree_toml.specs.declared.fault.TreeTextError.{TreeTextError}
 use Rattle.tree_toml.specs.declared.fault.TreeTextError.TheVariants.{NotToml}
 
-pub table_is : (text : List ℕ) (ms : Members) (r : Result Setup TreeTextError) → IsUtf8 text → parse_document text ≡ Some ms → Answers setup_view r (setup_in ms) → Answers setup_view r (document_of text)
+pub table_is : (text : List ℕ) (ms : Members) (r : Result Setup TreeTextError) → IsUtf8 text → parse_document text ≡ Some ms → Answers setup_view r (setup_in ms)
+    → Answers setup_view r (document_of text)
 unfolding document_of
 table_is text ms r utf8 parsed read = rw (is_utf8-from_IsUtf8 text utf8, parsed) read
 

@@ -1,5 +1,6 @@
 -- The properties of the nodes that were read.
-use Rattle.std.proofs.Common.{◌≡◌, ℕ, ◌+◌, ◌-◌, ◌<◌, ◌≤◌, ℤ, pos, negsuc, Bool, true, false, not, ◌&&◌, ◌==◌, nat_le, if◌then◌else◌, List, [], ◌∷◌, length, length-append, codes, Option, Some, None, Result, Ok, Err, refl, ap, arith}
+use Rattle.std.proofs.Common.{◌≡◌, ℕ, ◌+◌, ◌-◌, ◌<◌, ◌≤◌, ℤ, pos, negsuc, Bool, true, false, not, ◌&&◌, ◌==◌, nat_le, if◌then◌else◌}
+use Rattle.std.proofs.Common.{List, [], ◌∷◌, length, length-append, codes, Option, Some, None, Result, Ok, Err, refl, ap, arith}
 use Rattle.std.proofs.lemmas.Bool.{leb-true}
 use Rattle.std.proofs.lemmas.List.Elements.{All-push, All-nil}
 use Rattle.std.specs.List.{All}
@@ -12,7 +13,8 @@ use Rattle.tree_toml.specs.Fields.{place, integer_at, within, numbered, entry, e
 use Rattle.teb_rules.specs.names.Names.{is_name}
 use Rattle.tree_toml.specs.Names.{named}
 use Rattle.tree_toml.specs.Types.{name_in, name_text_of}
-use Rattle.tree_toml.specs.Nodes.{member_of, member_in, members_from, members_in, texts_form, batch_of, commit_of, parts_of, part_of, Share, whole, has_key, share_of, share_for, leaf_row, node_row, node_in, node_rows, node_name, node_names, NodeList, nodes_of, control_of, own_keys, parent_of}
+use Rattle.tree_toml.specs.Nodes.{member_of, member_in, members_from, members_in, texts_form, batch_of, commit_of, parts_of, part_of, Share, whole, has_key, share_of}
+use Rattle.tree_toml.specs.Nodes.{share_for, leaf_row, node_row, node_in, node_rows, node_name, node_names, NodeList, nodes_of, control_of, own_keys, parent_of}
 use Rattle.tree_toml.specs.Kept.{IsRow, AreRows}
 use Rattle.tree_toml.specs.declared.fault.ListName.{ListName}
 use Rattle.tree_toml.specs.declared.fault.ListName.TheVariants as list

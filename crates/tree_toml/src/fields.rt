@@ -6,7 +6,8 @@ ghost use Rattle.toml.specs.View.{view, table_view};
 ghost use Rattle.teb_rules.specs.names.Names.{has};
 ghost use Rattle.tree_toml.specs.declared.fault.ListName.TheVariants.{Top, Nodes};
 ghost use Rattle.tree_toml.specs.Reading.{Gives, required as spec_required};
-ghost use Rattle.tree_toml.specs.Fields.{place as spec_place, as_list as spec_as_list, keys_of, all_known as spec_all_known, text_at as spec_text_at, integer_at as spec_integer_at, array_at as spec_array_at, within as spec_within, numbered as spec_numbered};
+ghost use Rattle.tree_toml.specs.Fields.{place as spec_place, as_list as spec_as_list, keys_of, all_known as spec_all_known, text_at as spec_text_at};
+ghost use Rattle.tree_toml.specs.Fields.{integer_at as spec_integer_at, array_at as spec_array_at, within as spec_within, numbered as spec_numbered};
 
 use crate::fault::{FieldWhy, Key, ListName, Place};
 use teb_rules::names::Names;

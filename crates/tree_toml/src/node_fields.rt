@@ -4,7 +4,8 @@ ghost use Rattle.std.specs.Prelude.{◌≡◌};
 ghost use Rattle.toml.specs.View.{table_view};
 ghost use Rattle.store_setup.specs.tree.Grown.{parent_number};
 ghost use Rattle.tree_toml.specs.Reading.{Gives};
-ghost use Rattle.tree_toml.specs.Nodes.{control_named as spec_control_named, control_of, has_key as spec_has_key, is_foreign as spec_is_foreign, own_keys as spec_own_keys, parent_of, batch_of, commit_named as spec_commit_named, commit_of};
+ghost use Rattle.tree_toml.specs.Nodes.{control_named as spec_control_named, control_of, has_key as spec_has_key, is_foreign as spec_is_foreign};
+ghost use Rattle.tree_toml.specs.Nodes.{own_keys as spec_own_keys, parent_of, batch_of, commit_named as spec_commit_named, commit_of};
 
 use crate::fault::FieldWhy;
 use crate::fields::{found, integer_at, numbered, required, text_at, within};

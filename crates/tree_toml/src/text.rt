@@ -1,7 +1,8 @@
 //! The lines that name the fault of a tree text.
 
 ghost use Rattle.std.specs.Prelude.{◌≡◌, ◌++◌, is_ok, if◌then◌else◌};
-ghost use Rattle.tree_toml.specs.Texts.{piece_text, pieces_text, joined, field_parts, fault_text, list_word as spec_list_word, key_word as spec_key_word, top_word as spec_top_word, dot_word as spec_dot_word, why_word as spec_why_word, shape_word as spec_shape_word, rule_word as spec_rule_word};
+ghost use Rattle.tree_toml.specs.Texts.{piece_text, pieces_text, joined, field_parts, fault_text, list_word as spec_list_word, key_word as spec_key_word, top_word as spec_top_word};
+ghost use Rattle.tree_toml.specs.Texts.{dot_word as spec_dot_word, why_word as spec_why_word, shape_word as spec_shape_word, rule_word as spec_rule_word};
 
 use crate::fault::{FieldWhy, Key, ListName, Place, TreeTextError};
 use itoa::Buffer;

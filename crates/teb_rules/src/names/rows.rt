@@ -1,6 +1,7 @@
 //! The rows of tables: a map from cells to values, in ascending order of cells.
 
-ghost use Rattle.std.specs.Prelude.{◌≡◌, ◌==◌, ◌<◌, ◌≤◌, [], List, ℤ, false, length, is_none, IsSome, Some, None, IfOk, IfErr, OnOk, OnErr, slice_get, slice_index_or, insert, unwrap_or, if◌then◌else◌};
+ghost use Rattle.std.specs.Prelude.{◌≡◌, ◌==◌, ◌<◌, ◌≤◌, [], List, ℤ, false, length, is_none, IsSome, Some, None, IfOk};
+ghost use Rattle.std.specs.Prelude.{IfErr, OnOk, OnErr, slice_get, slice_index_or, insert, unwrap_or, if◌then◌else◌};
 ghost use Rattle.teb_rules.specs.names.Cells.{same_cell};
 ghost use Rattle.teb_rules.specs.declared.names.Cell.{Cell};
 ghost use Rattle.teb_rules.specs.names.Rows.{row_of, insert_row, IsAscending};

@@ -2,7 +2,7 @@ use Rattle.std.proofs.Common.{◌≡◌, [], ◌++◌, refl, sym, subst, rules}
 use Rattle.teb_rules.specs.declared.names.naming.NameBook.{NameBook}
 use Rattle.engine_core.specs.EngineModel.{EngineModel}
 use Rattle.store_setup.specs.SetupView.{setup_view}
-use Rattle.tree_switch.specs.Refusals.{IsDrained}
+use Rattle.teb_rules.specs.Epochs.{IsDrained}
 use Rattle.answer_log.specs.Telling.{HasLines}
 use Rattle.script_runner.specs.replay.Logs.{log_of, replayed}
 use Rattle.script_runner.specs.Runs.{IsRunOver}

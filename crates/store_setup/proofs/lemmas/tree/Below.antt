@@ -1,5 +1,6 @@
 -- Rows by their numbers, and tests over the numbers below a bound.
-use Rattle.std.proofs.Common.{◌≡◌, ℕ, zero, suc, ◌+◌, ◌<◌, ◌≤◌, Bool, true, false, cond, ◌||◌, eqb, List, [], ◌∷◌, ◌++◌, length, get_or, map, take, unwrap_or, Option, Some, None, refl, sym, ◌∙◌, ap, inl, inr, arith, le_refl}
+use Rattle.std.proofs.Common.{◌≡◌, ℕ, zero, suc, ◌+◌, ◌<◌, ◌≤◌, Bool, true, false, cond, ◌||◌, eqb, List, [], ◌∷◌, ◌++◌, length}
+use Rattle.std.proofs.Common.{get_or, map, take, unwrap_or, Option, Some, None, refl, sym, ◌∙◌, ap, inl, inr, arith, le_refl}
 use Rattle.std.proofs.lemmas.Bool.{cases_lt}
 use Rattle.std.specs.List.{list_any, find}
 use Rattle.std.proofs.lemmas.List.{get_or-map, length-map, map-append, take_more, take_all, take-map}

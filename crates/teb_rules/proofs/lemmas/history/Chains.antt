@@ -1,5 +1,6 @@
 -- The events of one transaction, along the links between them.
-use Rattle.std.proofs.Common.{◌≡◌, ℕ, suc, ◌+◌, ◌-◌, ◌<◌, ◌≤◌, Bool, true, false, cond, ltb, List, [], ◌∷◌, ◌++◌, length, filter, get_or, reverse, refl, sym, ◌∙◌, ap, subst, arith, lt-ltb, le-ltb, ◌⊎◌, inl, inr}
+use Rattle.std.proofs.Common.{◌≡◌, ℕ, suc, ◌+◌, ◌-◌, ◌<◌, ◌≤◌, Bool, true, false, cond, ltb, List, [], ◌∷◌, ◌++◌, length}
+use Rattle.std.proofs.Common.{filter, get_or, reverse, refl, sym, ◌∙◌, ap, subst, arith, lt-ltb, le-ltb, ◌⊎◌, inl, inr}
 use Rattle.std.proofs.lemmas.Bool.{eqb-true, eq-eqb}
 use Rattle.std.proofs.lemmas.List.{reverse-append, reverse-reverse, length-reverse, get_or_append_left}
 use Rattle.std.proofs.Math.Seq.{get_or-append_seam}

@@ -1,5 +1,6 @@
 -- A transaction's first Put of a cell, found by walking its own events from the newest backward.
-use Rattle.std.proofs.Common.{◌≡◌, ℕ, suc, ◌+◌, ◌-◌, ◌<◌, ◌≤◌, Bool, true, false, cond, ◌&&◌, ltb, is_some, List, [], ◌∷◌, length, get_or, reverse, refl, sym, ◌∙◌, ap, subst, arith, lt-ltb, le-ltb, ltb-true}
+use Rattle.std.proofs.Common.{◌≡◌, ℕ, suc, ◌+◌, ◌-◌, ◌<◌, ◌≤◌, Bool, true, false, cond, ◌&&◌, ltb, is_some, List, []}
+use Rattle.std.proofs.Common.{◌∷◌, length, get_or, reverse, refl, sym, ◌∙◌, ap, subst, arith, lt-ltb, le-ltb, ltb-true}
 use Rattle.std.proofs.lemmas.Bool.{eqb-true, ltb-false}
 use Rattle.std.proofs.lemmas.List.{length-reverse, reverse-reverse}
 use Rattle.teb_rules.specs.declared.names.Cell.{Cell}

@@ -8,7 +8,8 @@ use Rattle.teb_rules.specs.declared.history.Event.TheVariants.{Began, Got, Put, 
 use Rattle.teb_rules.specs.declared.history.Phase.TheVariants as phase
 use Rattle.teb_rules.specs.declared.history.standing.Start.{Start}
 use Rattle.teb_rules.specs.history.Positions.{first, first_event, came}
-use Rattle.teb_rules.specs.history.Phases.{is_began, is_ready, is_done, is_gone, is_told, began_at, ready_at, done_at, gone_at, told_at, begun, committed, aborted, unfinished, untold, prepared, spot_of, session_of, cause_of}
+use Rattle.teb_rules.specs.history.Phases.{is_began, is_ready, is_done, is_gone, is_told, began_at, ready_at, done_at, gone_at, told_at}
+use Rattle.teb_rules.specs.history.Phases.{begun, committed, aborted, unfinished, untold, prepared, spot_of, session_of, cause_of}
 use Rattle.teb_rules.specs.history.Written.{phase_of, begun_spot, begun_kind, begun_session}
 use Rattle.teb_rules.specs.history.OwnEvents.{is_of, own_end}
 use Rattle.teb_rules.specs.history.Live.{is_live}

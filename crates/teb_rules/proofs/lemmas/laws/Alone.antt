@@ -1,5 +1,6 @@
 -- A transaction that runs alone is never stopped.
-use Rattle.std.proofs.Common.{◌≡◌, ◌≢◌, ◌⊎◌, ℕ, ◌<◌, ◌≤◌, Bool, true, false, cond, not, ◌&&◌, ◌||◌, eqb, ltb, leb, List, [], ◌∷◌, length, Option, Some, None, refl, sym, ◌∙◌, ap, subst, inl, inr, arith, find, is_none, ℤ, ◌+ℤ◌}
+use Rattle.std.proofs.Common.{◌≡◌, ◌≢◌, ◌⊎◌, ℕ, ◌<◌, ◌≤◌, Bool, true, false, cond, not, ◌&&◌, ◌||◌, eqb, ltb, leb, List, [], ◌∷◌}
+use Rattle.std.proofs.Common.{length, Option, Some, None, refl, sym, ◌∙◌, ap, subst, inl, inr, arith, find, is_none, ℤ, ◌+ℤ◌}
 use Rattle.teb_rules.specs.declared.history.Event.{Event}
 use Rattle.teb_rules.specs.declared.history.Event.TheVariants.{Ready}
 use Rattle.teb_rules.specs.declared.names.TheConstants.{MOST_TXNS, SESSIONS}

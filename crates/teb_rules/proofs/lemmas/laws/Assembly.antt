@@ -1,5 +1,6 @@
 -- From the laws of the single nodes to the serial order of the whole tree.
-use Rattle.std.proofs.Common.{unwrap_or, ◌≡◌, ◌≢◌, ℕ, suc, ◌<◌, ◌≤◌, Bool, true, false, ◌&&◌, List, [], ◌∷◌, Option, Some, None, refl, sym, ◌∙◌, ap, ap₂, subst, subst₂, inl, inr, arith, ℤ, length, ltb-true, ltb-false, lt-ltb, le-ltb, le_refl, eqb-true, eq-eqb, ne_eqb, filter}
+use Rattle.std.proofs.Common.{unwrap_or, ◌≡◌, ◌≢◌, ℕ, suc, ◌<◌, ◌≤◌, Bool, true, false, ◌&&◌, List, [], ◌∷◌, Option, Some, None, refl, sym, ◌∙◌, ap, ap₂}
+use Rattle.std.proofs.Common.{subst, subst₂, inl, inr, arith, ℤ, length, ltb-true, ltb-false, lt-ltb, le-ltb, le_refl, eqb-true, eq-eqb, ne_eqb, filter}
 use Rattle.std.proofs.lemmas.Bool.{cases_lt, both_ways, cases_order, cases_eq, and_parts, and_from, or_cases, or_left, or_right, not-true, not_from_false, eqb-false}
 use Rattle.std.specs.List.{list_any}
 use Rattle.teb_rules.specs.declared.names.Txn.{Txn}

@@ -1,5 +1,6 @@
 -- Batches: after `start` and up to `close` some transaction of the side is unfinished, and at both ends none is.
-use Rattle.std.proofs.Common.{◌≡◌, ◌≢◌, ℕ, zero, suc, ◌<◌, ◌≤◌, Bool, true, false, eqb, List, [], ◌∷◌, refl, sym, ◌∙◌, ap, subst, subst₂, inl, inr, arith, length, ltb-true, lt-ltb, le_refl, eqb-true, eq-eqb}
+use Rattle.std.proofs.Common.{◌≡◌, ◌≢◌, ℕ, zero, suc, ◌<◌, ◌≤◌, Bool, true, false, eqb, List, [], ◌∷◌, refl, sym, ◌∙◌}
+use Rattle.std.proofs.Common.{ap, subst, subst₂, inl, inr, arith, length, ltb-true, lt-ltb, le_refl, eqb-true, eq-eqb}
 use Rattle.std.proofs.lemmas.Bool.{cases_Bool, cases_lt, both_ways, false_from_ne_true, true_from_ne_false, and_parts, and_from, and_cases, not-true, not-false}
 use Rattle.std.specs.List.{list_all}
 use Rattle.teb_rules.specs.declared.history.Event.{Event}

@@ -1,5 +1,6 @@
 -- An abort with its cascade leaves a lawful and settled history.
-use Rattle.std.proofs.Common.{◌≡◌, ◌≢◌, ◌⊎◌, ℕ, zero, suc, ◌+◌, ◌<◌, ◌≤◌, Bool, true, false, cond, not, ◌&&◌, eqb, ltb, List, [], ◌∷◌, refl, sym, ◌∙◌, ap, subst, inl, inr, arith, length, ltb-false, lt-ltb, le-ltb, le_refl, eqb-true, eq-eqb, ne_eqb, filter}
+use Rattle.std.proofs.Common.{◌≡◌, ◌≢◌, ◌⊎◌, ℕ, zero, suc, ◌+◌, ◌<◌, ◌≤◌, Bool, true, false, cond, not, ◌&&◌, eqb, ltb, List, [], ◌∷◌, refl, sym}
+use Rattle.std.proofs.Common.{◌∙◌, ap, subst, inl, inr, arith, length, ltb-false, lt-ltb, le-ltb, le_refl, eqb-true, eq-eqb, ne_eqb, filter}
 use Rattle.std.proofs.lemmas.Bool.{cases_lt, both_ways, cases_eq, false_from_ne_true, and_parts, and_from, or_cases, or_left, or_right, not-true, not_from_false, eqb-false}
 use Rattle.teb_rules.specs.declared.history.Event.{Event}
 use Rattle.teb_rules.specs.declared.history.Event.TheVariants.{Began, Got, Put, Ready, Done, Gone, Told}

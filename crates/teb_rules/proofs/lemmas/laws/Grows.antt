@@ -21,7 +21,8 @@ use Rattle.teb_rules.specs.declared.names.Cell.{Cell}
 use Rattle.teb_rules.specs.declared.names.Session.{Session}
 use Rattle.teb_rules.specs.declared.names.Spot.{Spot}
 use Rattle.teb_rules.specs.Verdicts.{cause_at}
-use Rattle.teb_rules.specs.Answer.{Answered, added, broken_off, answer, answer_new, answer_of, answer_to, begin_or_wait, cells_from, fits, is_scan, or_refused, or_stop, put_value, read_all, refuse, scan_values}
+use Rattle.teb_rules.specs.Answer.{Answered, added, broken_off, answer, answer_new, answer_of, answer_to, begin_or_wait}
+use Rattle.teb_rules.specs.Answer.{cells_from, fits, is_scan, or_refused, or_stop, put_value, read_all, refuse, scan_values}
 use Rattle.teb_rules.specs.Cascade.{abort, blamed, cascade, fall_in_turn, txn}
 use Rattle.teb_rules.specs.Setup.{Store, Setup, profile}
 use Rattle.teb_rules.specs.Steps.{cursor, least_step}

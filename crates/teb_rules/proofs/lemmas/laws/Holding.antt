@@ -1,6 +1,7 @@
 -- The transactions that a session holds, event by event.
 use Rattle.std.proofs.Common.{◌++◌}
-use Rattle.std.proofs.Common.{◌≡◌, ◌≢◌, ◌⊎◌, ℕ, suc, ◌<◌, ◌≤◌, Bool, true, false, not, ◌&&◌, ◌||◌, eqb, ltb, List, [], ◌∷◌, Some, None, refl, sym, ◌∙◌, ap, subst, inl, inr, arith, length, ltb-true, ltb-false, lt-ltb, le-ltb, eqb-true, eq-eqb, ne_eqb}
+use Rattle.std.proofs.Common.{◌≡◌, ◌≢◌, ◌⊎◌, ℕ, suc, ◌<◌, ◌≤◌, Bool, true, false, not, ◌&&◌, ◌||◌, eqb, ltb, List, [], ◌∷◌, Some, None, refl}
+use Rattle.std.proofs.Common.{sym, ◌∙◌, ap, subst, inl, inr, arith, length, ltb-true, ltb-false, lt-ltb, le-ltb, eqb-true, eq-eqb, ne_eqb}
 use Rattle.std.proofs.lemmas.Bool.{cases_lt, both_ways, cases_eq, false_from_ne_true, and_parts, or_cases, not-true}
 use Rattle.teb_rules.specs.declared.history.Event.{Event}
 use Rattle.teb_rules.specs.declared.history.Event.TheVariants.{Began, Got, Put, Ready, Done, Gone, Told}
@@ -10,7 +11,8 @@ use Rattle.teb_rules.specs.declared.names.Cause.{Cause}
 use Rattle.teb_rules.specs.declared.names.Cause.TheVariants.{After}
 use Rattle.teb_rules.proofs.lemmas.names.Bools.{and_false}
 use Rattle.teb_rules.specs.Setup.{Setup}
-use Rattle.teb_rules.specs.history.Phases.{aborted, began_at, begun, begun_count, cause_of, committed, done_at, gone_at, held, is_after, is_began, is_done, is_gone, is_told, session_of, told_at, txns, unfinished, untold}
+use Rattle.teb_rules.specs.history.Phases.{aborted, began_at, begun, begun_count, cause_of, committed, done_at, gone_at, held, is_after}
+use Rattle.teb_rules.specs.history.Phases.{is_began, is_done, is_gone, is_told, session_of, told_at, txns, unfinished, untold}
 use Rattle.teb_rules.specs.history.Positions.{came, first, first_event, newest, upto}
 use Rattle.teb_rules.proofs.lemmas.laws.Answers.{Good, lawful_cons}
 use Rattle.teb_rules.proofs.lemmas.laws.Cascades.{cascade-In, cascade_closed, falls, falls_parts, members_unfinished, unfinished_kept, unfinished_times}

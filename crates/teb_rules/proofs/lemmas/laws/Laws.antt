@@ -2,7 +2,8 @@
 use Rattle.std.proofs.Common.{unwrap_or, ◌≡◌, ℕ, ◌<◌, ◌≤◌, true, false, eqb, List, [], ◌∷◌, length, Option, sym, ◌∙◌, ap, subst, inl, inr, arith, ℤ, ltb-true, ltb-false, le_refl, eqb-true, eq-eqb}
 use Rattle.teb_rules.specs.declared.history.Event.{Event}
 use Rattle.teb_rules.specs.declared.history.Event.TheVariants.{Got}
-use Rattle.teb_rules.specs.laws.Laws.{reached, OfEveryRun, OfEveryStore, EveryRunSerializes, IsWriter, OrdersVersions, is_read, OrdersConflicts, RanksAgree, BatchesNest, CascadesAreFew, WaitsForOlder, OnlyGrows, Stands, ReadsAreStable, ServesAlone}
+use Rattle.teb_rules.specs.laws.Laws.{reached, OfEveryRun, OfEveryStore, EveryRunSerializes, IsWriter, OrdersVersions, is_read, OrdersConflicts}
+use Rattle.teb_rules.specs.laws.Laws.{RanksAgree, BatchesNest, CascadesAreFew, WaitsForOlder, OnlyGrows, Stands, ReadsAreStable, ServesAlone}
 use Rattle.std.proofs.lemmas.Bool.{and_from, and_parts, or_cases, false_from_ne_true}
 use Rattle.std.specs.List.{list_any}
 use Rattle.teb_rules.specs.history.Accesses.{put_at, wrote}

@@ -1,5 +1,6 @@
 -- What the laws of all controls share: a version that is seen and is after the one that was read is a contradiction.
-use Rattle.std.proofs.Common.{◌≡◌, ◌≢◌, ℕ, suc, ◌<◌, ◌≤◌, min, true, ltb, List, [], ◌∷◌, Option, refl, sym, ◌∙◌, ap, subst, inl, inr, arith, ℤ, length, ltb-true, ltb-false, lt-ltb, le-ltb, le_refl, filter}
+use Rattle.std.proofs.Common.{◌≡◌, ◌≢◌, ℕ, suc, ◌<◌, ◌≤◌, min, true, ltb, List, [], ◌∷◌, Option, refl, sym, ◌∙◌, ap}
+use Rattle.std.proofs.Common.{subst, inl, inr, arith, ℤ, length, ltb-true, ltb-false, lt-ltb, le-ltb, le_refl, filter}
 use Rattle.std.proofs.lemmas.Bool.{cases_lt, both_ways, cases_eq, false_from_ne_true}
 use Rattle.teb_rules.specs.declared.names.Txn.{Txn}
 use Rattle.teb_rules.specs.declared.names.Cell.{Cell}

@@ -1,7 +1,8 @@
 -- Nodes, sides and meets of transactions in a lawful history over an accepted tree.
 use Rattle.teb_rules.specs.laws.TreeFacts.{IsAbove}
 use Rattle.teb_rules.specs.declared.names.Spot.{Spot}
-use Rattle.std.proofs.Common.{◌≡◌, ◌≢◌, ◌⊎◌, ℕ, ◌<◌, Bool, true, false, cond, eqb, List, [], ◌∷◌, ◌++◌, Option, Some, refl, sym, ◌∙◌, ap, subst, inl, inr, arith, length, eqb-true, eq-eqb, ne_eqb, find, append_assoc, unwrap_or}
+use Rattle.std.proofs.Common.{◌≡◌, ◌≢◌, ◌⊎◌, ℕ, ◌<◌, Bool, true, false, cond, eqb, List, [], ◌∷◌, ◌++◌, Option, Some, refl, sym}
+use Rattle.std.proofs.Common.{◌∙◌, ap, subst, inl, inr, arith, length, eqb-true, eq-eqb, ne_eqb, find, append_assoc, unwrap_or}
 use Rattle.std.proofs.lemmas.Bool.{both_ways, and_parts, and_from, or_cases, or_left, or_right, not-true, not_from_false, eqb-false}
 use Rattle.teb_rules.specs.declared.history.Event.{Event}
 use Rattle.teb_rules.specs.history.Phases.{spot_of}

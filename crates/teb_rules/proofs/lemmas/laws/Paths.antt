@@ -1,6 +1,7 @@
 -- Paths of an accepted tree: a node determines the way to it.
 use Rattle.teb_rules.specs.declared.names.Spot.{Spot}
-use Rattle.std.proofs.Common.{◌≡◌, ◌⊎◌, ℕ, zero, suc, ◌<◌, ◌≤◌, Bool, true, false, cond, ◌||◌, eqb, ltb, List, [], ◌∷◌, ◌++◌, Option, Some, None, refl, sym, ◌∙◌, ap, inl, inr, arith, flat_map, eqb-true, eq-eqb, ne_eqb, ltb-true, lt-ltb, le-ltb, le_refl}
+use Rattle.std.proofs.Common.{◌≡◌, ◌⊎◌, ℕ, zero, suc, ◌<◌, ◌≤◌, Bool, true, false, cond, ◌||◌, eqb, ltb, List, [], ◌∷◌, ◌++◌, Option, Some, None}
+use Rattle.std.proofs.Common.{refl, sym, ◌∙◌, ap, inl, inr, arith, flat_map, eqb-true, eq-eqb, ne_eqb, ltb-true, lt-ltb, le-ltb, le_refl}
 use Rattle.std.proofs.lemmas.Bool.{or_cases, or_left, or_right, and_parts, cases_eq, cases_lt, both_ways, cases_order, false_from_ne_true}
 use Rattle.teb_rules.specs.laws.TreeFacts.{TreeFacts}
 use Rattle.teb_rules.specs.Ranks.{lex}

@@ -1,5 +1,6 @@
 -- The law of a pipeline node.
-use Rattle.std.proofs.Common.{◌≡◌, ◌⊎◌, ℕ, ◌<◌, ◌≤◌, min, Bool, true, false, cond, not, ◌&&◌, ◌||◌, eqb, List, [], ◌∷◌, Option, Some, None, refl, sym, ◌∙◌, ap, subst, inl, inr, arith, length, ltb-true, lt-ltb, le_refl}
+use Rattle.std.proofs.Common.{◌≡◌, ◌⊎◌, ℕ, ◌<◌, ◌≤◌, min, Bool, true, false, cond, not, ◌&&◌, ◌||◌, eqb, List, [], ◌∷◌, Option}
+use Rattle.std.proofs.Common.{Some, None, refl, sym, ◌∙◌, ap, subst, inl, inr, arith, length, ltb-true, lt-ltb, le_refl}
 use Rattle.std.proofs.lemmas.Bool.{cases_lt, both_ways, and_parts, and_from, and_cases, or_cases, or_left, or_right, not-false}
 use Rattle.teb_rules.specs.declared.names.Cell.{Cell}
 use Rattle.teb_rules.specs.declared.history.Event.{Event}
@@ -22,7 +23,8 @@ use Rattle.teb_rules.specs.Tree.{row, on, meets}
 use Rattle.teb_rules.specs.declared.Verdict.TheVariants.{Go}
 use Rattle.teb_rules.specs.Versions.{sees_by}
 use Rattle.teb_rules.proofs.lemmas.laws.Positions.{before, now, later, first_cases, upto_all, upto_cons}
-use Rattle.teb_rules.proofs.lemmas.laws.Timeline.{Lawful-upto, granted_at, unfinished-upto, upto-unfinished, begun_there, put_order, on-upto, meets-upto, wrote-upto, aborted-upto, committed-upto, put_may}
+use Rattle.teb_rules.proofs.lemmas.laws.Timeline.{Lawful-upto, granted_at, unfinished-upto, upto-unfinished, begun_there, put_order}
+use Rattle.teb_rules.proofs.lemmas.laws.Timeline.{on-upto, meets-upto, wrote-upto, aborted-upto, committed-upto, put_may}
 use Rattle.teb_rules.proofs.lemmas.laws.Locks.{In-txns}
 use Rattle.teb_rules.proofs.lemmas.laws.Nodes.{meets_parts, meets_sym}
 use Rattle.teb_rules.proofs.lemmas.laws.Ranks.{commits}

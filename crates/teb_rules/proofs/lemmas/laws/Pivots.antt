@@ -1,5 +1,6 @@
 -- Transactions that are prepared or committed hold no pivot: no edges a -> b and c -> d with b and c of one batch.
-use Rattle.std.proofs.Common.{◌≡◌, ◌≢◌, ◌⊎◌, ℕ, suc, ◌<◌, ◌≤◌, min, Bool, true, false, cond, ◌||◌, eqb, List, [], ◌∷◌, ◌++◌, Option, Some, None, refl, sym, ◌∙◌, ap, subst, subst₂, inl, inr, arith, ℤ, length, ltb-true, lt-ltb, le_refl, eqb-true, eq-eqb, find, filter}
+use Rattle.std.proofs.Common.{◌≡◌, ◌≢◌, ◌⊎◌, ℕ, suc, ◌<◌, ◌≤◌, min, Bool, true, false, cond, ◌||◌, eqb, List, [], ◌∷◌, ◌++◌, Option, Some, None, refl}
+use Rattle.std.proofs.Common.{sym, ◌∙◌, ap, subst, subst₂, inl, inr, arith, ℤ, length, ltb-true, lt-ltb, le_refl, eqb-true, eq-eqb, find, filter}
 use Rattle.std.proofs.lemmas.Bool.{cases_lt, both_ways, cases_order, cases_eq, and_parts, and_from, or_cases, or_left, or_right}
 use Rattle.teb_rules.specs.declared.names.Txn.{Txn}
 use Rattle.teb_rules.specs.declared.names.Cell.{Cell}
@@ -21,7 +22,8 @@ use Rattle.teb_rules.specs.Tree.{row, on, meets}
 use Rattle.teb_rules.specs.declared.Verdict.TheVariants.{Go}
 use Rattle.teb_rules.specs.Versions.{precedes}
 use Rattle.teb_rules.proofs.lemmas.laws.Positions.{upto_all, upto_cons, first-upto}
-use Rattle.teb_rules.proofs.lemmas.laws.Timeline.{Lawful-upto, granted_at, unfinished-upto, upto-unfinished, begun_there, put_order, begun_counted, on-upto, side-upto, meets-upto, wrote-upto, committed-upto, event_first}
+use Rattle.teb_rules.proofs.lemmas.laws.Timeline.{Lawful-upto, granted_at, unfinished-upto, upto-unfinished, begun_there, put_order}
+use Rattle.teb_rules.proofs.lemmas.laws.Timeline.{begun_counted, on-upto, side-upto, meets-upto, wrote-upto, committed-upto, event_first}
 use Rattle.teb_rules.proofs.lemmas.laws.Locks.{In-txns}
 use Rattle.teb_rules.proofs.lemmas.laws.Nodes.{meets_parts}
 use Rattle.teb_rules.proofs.lemmas.laws.Ranks.{commits, start-upto}

@@ -1,12 +1,14 @@
 -- A Got changes nothing but its reader's cursor, so after a read no other read of the table is stopped that was not stopped before.
-use Rattle.std.proofs.Common.{◌≡◌, ◌≢◌, ℕ, suc, ◌<◌, ◌≤◌, Bool, true, false, cond, not, ◌&&◌, ltb, List, [], ◌∷◌, Option, Some, None, refl, sym, ◌∙◌, ap, subst, inl, inr, arith, ℤ, length, ltb-true, lt-ltb, le-ltb, le_refl, eq-eqb, ne_eqb, find, is_some}
+use Rattle.std.proofs.Common.{◌≡◌, ◌≢◌, ℕ, suc, ◌<◌, ◌≤◌, Bool, true, false, cond, not, ◌&&◌, ltb, List, [], ◌∷◌, Option, Some, None, refl, sym}
+use Rattle.std.proofs.Common.{◌∙◌, ap, subst, inl, inr, arith, ℤ, length, ltb-true, lt-ltb, le-ltb, le_refl, eq-eqb, ne_eqb, find, is_some}
 use Rattle.std.proofs.lemmas.Bool.{both_ways, cases_eq, false_from_ne_true, and_parts, and_from, le-leb}
 use Rattle.teb_rules.specs.declared.history.Event.{Event}
 use Rattle.teb_rules.specs.declared.history.Event.TheVariants.{Got}
 use Rattle.teb_rules.specs.declared.names.ControlKind.TheVariants.{Locks, Pipeline, Timestamp, Snapshot}
 use Rattle.teb_rules.specs.declared.names.Txn.{Txn}
 use Rattle.teb_rules.specs.history.Accesses.{is_put, put_at, wrote}
-use Rattle.teb_rules.specs.history.Phases.{aborted, began_at, begun, begun_count, committed, done_at, gone_at, is_began, is_done, is_gone, is_ready, kind_of, prepared, ready_at, spot_of, txns, unfinished}
+use Rattle.teb_rules.specs.history.Phases.{aborted, began_at, begun, begun_count, committed, done_at, gone_at, is_began}
+use Rattle.teb_rules.specs.history.Phases.{is_done, is_gone, is_ready, kind_of, prepared, ready_at, spot_of, txns, unfinished}
 use Rattle.teb_rules.specs.history.Positions.{came, first, first_event, newest}
 use Rattle.teb_rules.proofs.lemmas.laws.Nodes.{meets_parts}
 use Rattle.teb_rules.proofs.lemmas.laws.Positions.{before, first_cases, later, now}

@@ -1,5 +1,6 @@
 -- A tree without a fault has the properties that the laws use.
-use Rattle.std.proofs.Common.{◌≡◌, ◌≢◌, ℕ, zero, suc, ◌<◌, ◌≤◌, ◌%◌, Bool, true, false, cond, not, ◌&&◌, ◌||◌, eqb, ltb, List, [], ◌∷◌, ◌++◌, length, map, Option, Some, None, is_some, unwrap_or, refl, sym, ◌∙◌, ap, subst, inl, inr, arith, filter, find, eqb-true, eq-eqb, ne_eqb, ltb-true, ltb-false}
+use Rattle.std.proofs.Common.{◌≡◌, ◌≢◌, ℕ, zero, suc, ◌<◌, ◌≤◌, ◌%◌, Bool, true, false, cond, not, ◌&&◌, ◌||◌, eqb, ltb, List, [], ◌∷◌, ◌++◌, length, map, Option, Some}
+use Rattle.std.proofs.Common.{None, is_some, unwrap_or, refl, sym, ◌∙◌, ap, subst, inl, inr, arith, filter, find, eqb-true, eq-eqb, ne_eqb, ltb-true, ltb-false}
 use Rattle.std.proofs.lemmas.Bool.{cases_Bool, cases_lt, both_ways, cases_eq, false_from_ne_true, not-false, not_from_false, eqb-false, or_cases, or_parts, and_parts, and_from, and_cases}
 use Rattle.std.proofs.lemmas.List.{get_or_past}
 use Rattle.std.proofs.Math.Nat.{mod-lt}
@@ -11,7 +12,8 @@ use Rattle.teb_rules.proofs.lemmas.laws.Lists.{In-append_cases, list_any_from}
 use Rattle.teb_rules.proofs.lemmas.laws.Serial.{filter-In}
 use Rattle.teb_rules.proofs.lemmas.laws.TableRanks.{In-below, below-In}
 use Rattle.teb_rules.specs.laws.TreeFacts.{IsAbove, TreeFacts}
-use Rattle.teb_rules.specs.Accepted.{Fault, Homeless, IsSound, are_few, breaks_P1, breaks_P2, breaks_P3, first_at, has_children, has_types, homes, is_child_of, is_homeless, is_later, is_misparented, is_misrooted, is_too_deep, is_twice, or_fault, placement_fault, repeats, shape_fault, share_a_type, some_above, tree_fault}
+use Rattle.teb_rules.specs.Accepted.{Fault, Homeless, IsSound, are_few, breaks_P1, breaks_P2, breaks_P3, first_at, has_children, has_types, homes, is_child_of, is_homeless, is_later}
+use Rattle.teb_rules.specs.Accepted.{is_misparented, is_misrooted, is_too_deep, is_twice, or_fault, placement_fault, repeats, shape_fault, share_a_type, some_above, tree_fault}
 use Rattle.teb_rules.specs.Setup.{NodeRow, Setup, among}
 use Rattle.teb_rules.specs.Tree.{below, is_locks, is_pipeline, is_snapshot, is_timestamp, leaf, no_row, row, way}
 use Rattle.teb_rules.proofs.lemmas.laws.Lists.{Pairs-weaker}

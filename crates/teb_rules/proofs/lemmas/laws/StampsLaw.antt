@@ -1,5 +1,6 @@
 -- The law of a timestamp node.
-use Rattle.std.proofs.Common.{◌≡◌, ◌≢◌, ◌⊎◌, ℕ, suc, ◌<◌, ◌≤◌, Bool, true, false, eqb, ltb, List, [], ◌∷◌, Option, Some, None, refl, sym, ◌∙◌, ap, ap₂, subst, inl, inr, arith, ℤ, length, ltb-true, lt-ltb, le-ltb, eq-eqb, find}
+use Rattle.std.proofs.Common.{◌≡◌, ◌≢◌, ◌⊎◌, ℕ, suc, ◌<◌, ◌≤◌, Bool, true, false, eqb, ltb, List, [], ◌∷◌, Option, Some, None}
+use Rattle.std.proofs.Common.{refl, sym, ◌∙◌, ap, ap₂, subst, inl, inr, arith, ℤ, length, ltb-true, lt-ltb, le-ltb, eq-eqb, find}
 use Rattle.std.proofs.lemmas.Bool.{cases_lt, both_ways, cases_order, cases_eq, and_from, or_cases, or_left, or_right, not_from_false}
 use Rattle.teb_rules.specs.declared.names.Txn.{Txn}
 use Rattle.teb_rules.specs.declared.names.Cell.{Cell}

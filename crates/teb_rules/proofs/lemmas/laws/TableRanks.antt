@@ -1,5 +1,6 @@
 -- The rank of a table never falls along a profile.
-use Rattle.std.proofs.Common.{◌≡◌, ℕ, zero, suc, ◌<◌, ◌≤◌, true, false, not, ◌&&◌, ◌||◌, eqb, List, [], ◌∷◌, Some, refl, sym, ap, subst, inl, inr, arith, length, get_or, map, filter, le_refl, eq-eqb, eqb-true}
+use Rattle.std.proofs.Common.{◌≡◌, ℕ, zero, suc, ◌<◌, ◌≤◌, true, false, not, ◌&&◌, ◌||◌, eqb, List, [], ◌∷◌, Some, refl}
+use Rattle.std.proofs.Common.{sym, ap, subst, inl, inr, arith, length, get_or, map, filter, le_refl, eq-eqb, eqb-true}
 use Rattle.std.proofs.lemmas.Bool.{both_ways, cases_eq, false_from_ne_true, and_parts, and_from, or_cases, or_left, or_right, not-true, not_from_false, leb-true}
 use Rattle.std.specs.List.{list_any}
 use Rattle.teb_rules.specs.Accepted.{HasProfiles}

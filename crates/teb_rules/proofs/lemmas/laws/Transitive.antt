@@ -114,7 +114,8 @@ between S a H m n x who u v w l pu pv pw e i mv f c p q = elim (cases_order (sta
     go Pipeline r d = a.pipelines n m (front-above S a m n i) (rw r refl) (rw c refl)
     go Locks r d =
         let o = a.timestamps n m (front-above S a m n i) (rw r refl) (rw c refl) in
-        elim (locks_access S H (put_at H v x) n v u x true l hv (put_granted S H v x l (let z = pw.place in omega arith)) r (meets_parts S H n u v mv).1 (meets_sym S H n u v mv) qv.0 early_u (inl p)) [
+        elim (locks_access S H (put_at H v x) n v u x true l hv (put_granted S H v x l (let z = pw.place in omega arith)) r (meets_parts S H n u v mv).1 (meets_sym S H n u v mv) qv.0
+        early_u (inl p)) [
           | inl t ↦ (let z = ordered_done S a H m w u l c o bw pw.stands (let y : done_at H u < length H = omega arith in y) (meets_sym S H m u w e) d in let y = qw.1 in omega arith)
           | inr t ↦ (let z = gone_u in omega arith)
         ]

@@ -1,5 +1,6 @@
 -- An Again names an unfinished transaction of a smaller number than the one that is told to wait.
-use Rattle.std.proofs.Common.{count_by, ◌≡◌, ◌≢◌, ◌⊎◌, ℕ, ◌<◌, Bool, true, false, cond, not, ◌&&◌, ◌||◌, eqb, ltb, leb, List, [], ◌∷◌, Option, Some, None, refl, sym, ◌∙◌, ap, subst, inl, inr, arith, filter, find, is_none, unwrap_or, ℤ, ◌+ℤ◌}
+use Rattle.std.proofs.Common.{count_by, ◌≡◌, ◌≢◌, ◌⊎◌, ℕ, ◌<◌, Bool, true, false, cond, not, ◌&&◌, ◌||◌, eqb, ltb, leb, List, [], ◌∷◌}
+use Rattle.std.proofs.Common.{Option, Some, None, refl, sym, ◌∙◌, ap, subst, inl, inr, arith, filter, find, is_none, unwrap_or, ℤ, ◌+ℤ◌}
 use Rattle.teb_rules.specs.declared.history.Event.{Event}
 use Rattle.teb_rules.specs.declared.history.Event.TheVariants.{Ready, Told}
 use Rattle.teb_rules.specs.declared.names.TheConstants.{MOST_TXNS, SESSIONS}

@@ -1,5 +1,6 @@
 -- Every answer names nodes of the tree, and tables and types of the store.
-use Rattle.std.proofs.Common.{◌≡◌, ◌⊎◌, ℕ, zero, suc, ◌<◌, ◌+◌, Bool, true, false, cond, not, ◌&&◌, ltb, leb, List, [], ◌∷◌, Option, Some, None, is_none, unwrap_or, eqb, refl, subst, inl, inr, arith, length, find, ltb-true, ℤ, ◌+ℤ◌}
+use Rattle.std.proofs.Common.{◌≡◌, ◌⊎◌, ℕ, zero, suc, ◌<◌, ◌+◌, Bool, true, false, cond, not, ◌&&◌, ltb, leb, List, [], ◌∷◌, Option}
+use Rattle.std.proofs.Common.{Some, None, is_none, unwrap_or, eqb, refl, subst, inl, inr, arith, length, find, ltb-true, ℤ, ◌+ℤ◌}
 use Rattle.std.proofs.lemmas.Bool.{not-false}
 use Rattle.teb_rules.specs.declared.names.TheConstants.{MOST_TXNS, SESSIONS}
 use Rattle.teb_rules.specs.declared.names.Node.{Node}

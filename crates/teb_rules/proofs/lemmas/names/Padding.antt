@@ -1,5 +1,6 @@
 -- Reading and writing one of the places of a fixed-size list.
-use Rattle.std.proofs.Common.{◌≡◌, ℕ, zero, suc, ◌+◌, ◌<◌, List, [], ◌∷◌, ◌++◌, length, take, slice_get, slice_index_or, slice_set, Bool, false, if◌then◌else◌, Option, Some, None, is_some, unwrap_or, pos, ℤ, refl, sym, ◌∙◌, ap, arith}
+use Rattle.std.proofs.Common.{◌≡◌, ℕ, zero, suc, ◌+◌, ◌<◌, List, [], ◌∷◌, ◌++◌, length, take, slice_get, slice_index_or, slice_set}
+use Rattle.std.proofs.Common.{Bool, false, if◌then◌else◌, Option, Some, None, is_some, unwrap_or, pos, ℤ, refl, sym, ◌∙◌, ap, arith}
 use Rattle.std.proofs.lemmas.List.{length-take-le, length_push, take_more_set}
 use Rattle.teb_rules.specs.names.Padding.{padded, padded_to, joined, held, flags, numbers}
 

@@ -1,5 +1,6 @@
 -- Names as strings and as bytes.
-use Rattle.std.proofs.Common.{◌≡◌, ℕ, zero, suc, ◌<◌, slice_get, get_or, subst, arith, List, [], ◌∷◌, ◌++◌, position, String, ◌+◌, not, if◌then◌else◌, ◌||◌, true, false, cond, string_bytes, refl, ap, ◌∙◌, sym, length, Some}
+use Rattle.std.proofs.Common.{◌≡◌, ℕ, zero, suc, ◌<◌, slice_get, get_or, subst, arith, List, [], ◌∷◌, ◌++◌, position, String}
+use Rattle.std.proofs.Common.{◌+◌, not, if◌then◌else◌, ◌||◌, true, false, cond, string_bytes, refl, ap, ◌∙◌, sym, length, Some}
 use Rattle.std.specs.declared.alloc.Global.{Global}
 use Rattle.std.specs.Str.{bytes_eq}
 use Rattle.std.specs.List.{list_any, position_or_len, IsDistinct, AllByRecursion}

@@ -3,7 +3,8 @@ use Rattle.std.proofs.lemmas.Bool.{both_ways}
 use Rattle.teb_rules.specs.declared.names.Cell.{Cell}
 use Rattle.teb_rules.specs.declared.names.naming.NameBook.{NameBook}
 use Rattle.teb_rules.specs.declared.history.Event.{Event}
-use Rattle.tree_switch.specs.Refusals.{AreNumbered, AreOfSessions, AllFinished, AllTold, IsDrained, IsLeast, IsUntold}
+use Rattle.tree_switch.specs.Refusals.{AreNumbered, AreOfSessions, AllFinished, AllTold, IsLeast}
+use Rattle.teb_rules.specs.Epochs.{IsDrained, IsUntold}
 use Rattle.tree_switch.proofs.Refusing.{are_numbered, are_of_sessions, no_rows}
 use Rattle.tree_switch.proofs.SameNames.{same_decides}
 use Rattle.tree_switch.proofs.refusal.check.Goals as goal

@@ -6,7 +6,8 @@ use Rattle.snapshot_node.specs.Pivots.{IsMateAmong}
 use Rattle.snapshot_node.proofs.Listed.{at_among}
 use Rattle.snapshot_node.proofs.FirstOf.{none_yet, none_more, first_is, first_not}
 use Rattle.snapshot_node.proofs.validation.Validation.first_mate_across.Goals as goal
-use Rattle.snapshot_node.proofs.validation.Validation.first_mate_across.Goals.{else-are_one_batch-via-then-are_one_batch+then-is_at_stake+else-are_across, else-are_one_batch-via-then-are_one_batch+else-is_at_stake, else-are_one_batch-via-else-are_one_batch}
+use Rattle.snapshot_node.proofs.validation.Validation.first_mate_across.Goals.{else-are_one_batch-via-then-are_one_batch+then-is_at_stake+else-are_across}
+use Rattle.snapshot_node.proofs.validation.Validation.first_mate_across.Goals.{else-are_one_batch-via-then-are_one_batch+else-is_at_stake, else-are_one_batch-via-else-are_one_batch}
 
 pub loop-u-init : goal.loop-u-init
 loop-u-init c = none_yet (IsMateAmong (setup_of c.args.self.now.asked.facts.now) (events_of c.args.self.now.asked.facts.now) c.args.self.now.asked.register.now.node.0 c.args.self.now.t.0 c.args.b.0

@@ -6,7 +6,8 @@ use Rattle.snapshot_node.proofs.Listed.{at_among}
 use Rattle.snapshot_node.proofs.FirstOf.{none_yet, none_more, first_not}
 use Rattle.snapshot_node.proofs.Nearness.{LeftAcross}
 use Rattle.snapshot_node.proofs.validation.Validation.is_left_among.Goals as goal
-use Rattle.snapshot_node.proofs.validation.Validation.is_left_among.Goals.{else-mark_of-via-then-mark_of+then-is_at_stake+else-are_across, else-mark_of-via-then-mark_of+else-is_at_stake, else-mark_of-via-else-mark_of}
+use Rattle.snapshot_node.proofs.validation.Validation.is_left_among.Goals.{else-mark_of-via-then-mark_of+then-is_at_stake+else-are_across}
+use Rattle.snapshot_node.proofs.validation.Validation.is_left_among.Goals.{else-mark_of-via-then-mark_of+else-is_at_stake, else-mark_of-via-else-mark_of}
 
 pub loop-b-init : goal.loop-b-init
 loop-b-init c = none_yet (LeftAcross c.args.self.now c.args.among.now) (record { 0 = 0 }) c.args.among.now

@@ -5,7 +5,8 @@ use Rattle.batch_book.proofs.Telling.{joined_from, joined_began}
 use Rattle.snapshot_node.specs.Pivots.{IsLeast, Leads}
 use Rattle.snapshot_node.specs.Validating.{may_lead}
 use Rattle.snapshot_node.proofs.Batchmates.{mate_here, leave_above, leave_unknown, leave_apart, leave_none, leave_here, leave_end}
-use Rattle.snapshot_node.proofs.validation.Validation.known_edge_out.Goals.{else-may_lead-via-else-may_lead, else-may_lead-via-then-may_lead+else-is_mate, else-may_lead-via-then-may_lead+then-is_mate+in-None-1}
+use Rattle.snapshot_node.proofs.validation.Validation.known_edge_out.Goals.{else-may_lead-via-else-may_lead, else-may_lead-via-then-may_lead+else-is_mate}
+use Rattle.snapshot_node.proofs.validation.Validation.known_edge_out.Goals.{else-may_lead-via-then-may_lead+then-is_mate+in-None-1}
 use Rattle.snapshot_node.proofs.validation.Validation.known_edge_out.Goals as goal
 
 pub horizon-first-requires : goal.horizon-first-requires

@@ -5,7 +5,8 @@ use Rattle.batch_book.proofs.Telling.{joined_from, joined_began}
 use Rattle.snapshot_node.specs.Pivots.{IsLeast}
 use Rattle.snapshot_node.specs.Validating.{may_be_led_to}
 use Rattle.snapshot_node.proofs.Batchmates.{ReachesBy, mate_here, reach_start, reach_unknown, reach_apart, reach_here, reach_end}
-use Rattle.snapshot_node.proofs.validation.Validation.known_into.Goals.{then-may_be_led_to+then-is_mate, else-may_be_led_to, else-may_be_led_to-via-then-may_be_led_to+else-is_mate, else-may_be_led_to-via-else-may_be_led_to}
+use Rattle.snapshot_node.proofs.validation.Validation.known_into.Goals.{then-may_be_led_to+then-is_mate, else-may_be_led_to}
+use Rattle.snapshot_node.proofs.validation.Validation.known_into.Goals.{else-may_be_led_to-via-then-may_be_led_to+else-is_mate, else-may_be_led_to-via-else-may_be_led_to}
 use Rattle.snapshot_node.proofs.validation.Validation.known_into.Goals as goal
 
 pub horizon-first-requires : goal.horizon-first-requires

@@ -8,7 +8,9 @@ use Rattle.snapshot_node.proofs.Listed.{at_among}
 use Rattle.snapshot_node.proofs.Least.{Remains, least_as, remains_start, remains_next, remains_skip, remains_end}
 use Rattle.snapshot_node.proofs.Comers.{ComesThrough, IsLast, last_first, last_next, remains_mate, through_comes, comes_through}
 use Rattle.snapshot_node.proofs.validation.Validation.least_before_by.Goals as goal
-use Rattle.snapshot_node.proofs.validation.Validation.least_before_by.Goals.{then-is_at_stake+then-are_across+then-not-are_one_batch, else-is_at_stake, else-is_at_stake-via-then-is_at_stake+then-are_across+else-not-are_one_batch, else-is_at_stake-via-then-is_at_stake+else-are_across, else-is_at_stake-via-else-is_at_stake}
+use Rattle.snapshot_node.proofs.validation.Validation.least_before_by.Goals.{then-is_at_stake+then-are_across+then-not-are_one_batch, else-is_at_stake}
+use Rattle.snapshot_node.proofs.validation.Validation.least_before_by.Goals.{else-is_at_stake-via-then-is_at_stake+then-are_across+else-not-are_one_batch}
+use Rattle.snapshot_node.proofs.validation.Validation.least_before_by.Goals.{else-is_at_stake-via-then-is_at_stake+else-are_across, else-is_at_stake-via-else-is_at_stake}
 
 pub loop-c-init : goal.loop-c-init
 loop-c-init c =

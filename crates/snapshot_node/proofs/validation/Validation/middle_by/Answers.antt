@@ -7,7 +7,8 @@ use Rattle.snapshot_node.proofs.Listed.{at_among}
 use Rattle.snapshot_node.proofs.FirstOf.{none_yet, none_more, first_is, first_not}
 use Rattle.snapshot_node.proofs.Middles.{is_left, not_left}
 use Rattle.snapshot_node.proofs.validation.Validation.middle_by.Goals as goal
-use Rattle.snapshot_node.proofs.validation.Validation.middle_by.Goals.{else-is_at_stake-via-then-is_at_stake+then-are_across+else-is_some, else-is_at_stake-via-then-is_at_stake+else-are_across, else-is_at_stake-via-else-is_at_stake}
+use Rattle.snapshot_node.proofs.validation.Validation.middle_by.Goals.{else-is_at_stake-via-then-is_at_stake+then-are_across+else-is_some}
+use Rattle.snapshot_node.proofs.validation.Validation.middle_by.Goals.{else-is_at_stake-via-then-is_at_stake+else-are_across, else-is_at_stake-via-else-is_at_stake}
 
 pub loop-b-init : goal.loop-b-init
 loop-b-init c = none_yet (IsMiddleAmong (setup_of c.args.self.now.asked.facts.now) (events_of c.args.self.now.asked.facts.now) c.args.self.now.asked.register.now.node.0 c.args.self.now.t.0 c.args.a.0

@@ -5,7 +5,8 @@ use Rattle.snapshot_node.specs.Asking.{AreThere, IsWalk}
 use Rattle.snapshot_node.proofs.Accessed.{book_next, reads_next, puts_next, next_writers_ascend, next_writers_here, next_readers_ascend, next_readers_here, walk_end}
 use Rattle.snapshot_node.proofs.Comers.{stake_itself}
 use Rattle.snapshot_node.proofs.RecentAcross.{late_as}
-use Rattle.snapshot_node.proofs.OwnEdges.{AheadIn, BehindIn, ahead_start, behind_start, left_start, entered_start, ahead_next, behind_next, left_next, entered_next, ahead_skip, behind_skip, left_skip, entered_skip, ahead_end, behind_end, left_end, entered_end}
+use Rattle.snapshot_node.proofs.OwnEdges.{AheadIn, BehindIn, ahead_start, behind_start, left_start, entered_start, ahead_next, behind_next, left_next}
+use Rattle.snapshot_node.proofs.OwnEdges.{entered_next, ahead_skip, behind_skip, left_skip, entered_skip, ahead_end, behind_end, left_end, entered_end}
 use Rattle.snapshot_node.proofs.validation.Validation.own_edges.Goals as goal
 
 pub loop-access-init : goal.loop-access-init

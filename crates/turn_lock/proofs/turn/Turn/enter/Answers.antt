@@ -9,12 +9,13 @@ pub fetch_add-ticket-requires : goal.fetch_add-ticket-requires
 fetch_add-ticket-requires g c = let out = c.requires.seat.1 in (c.requires.seat.0, search rules, draws _ _ _ _ _ _ _ _ _ _ out.1 out.2 c.requires.turns)
 
 pub load-serving-requires : goal.load-serving-requires
-load-serving-requires g c = let e : c.loop.seat.seat.me ≡ (drawn c.fetch_add-ticket.result c.args.seat.now.seat.me.0, c.args.seat.now.seat.me.1) = c.loop.invariant.1 ∙ c.fetch_add-ticket.ensures.2 in (
-  search rules,
-  search rules,
-  looks _ _ _ _ _ _ _ _ _ _ c.fetch_add-ticket.result (ap (λ m. m.0.ticket) e) (ap (λ m. m.0.inside) e ∙ c.requires.seat.1.2)
-      (λ n. c.args.seat.now.live (ap (λ m. m.0.owners) (sym e) ∙ n)),
-)
+load-serving-requires g c = let e : c.loop.seat.seat.me ≡ (drawn c.fetch_add-ticket.result c.args.seat.now.seat.me.0, c.args.seat.now.seat.me.1)
+    = c.loop.invariant.1 ∙ c.fetch_add-ticket.ensures.2 in (
+      search rules,
+      search rules,
+      looks _ _ _ _ _ _ _ _ _ _ c.fetch_add-ticket.result (ap (λ m. m.0.ticket) e) (ap (λ m. m.0.inside) e ∙ c.requires.seat.1.2)
+          (λ n. c.args.seat.now.live (ap (λ m. m.0.owners) (sym e) ∙ n)),
+    )
 
 pub exchange-requires : goal.exchange-requires
 exchange-requires g c = let e : c.loop.seat.seat.me ≡ (drawn c.fetch_add-ticket.result c.args.seat.now.seat.me.0, c.args.seat.now.seat.me.1) = c.loop.invariant.1 ∙ c.fetch_add-ticket.ensures.2 in
