@@ -8,7 +8,7 @@ use Rattle.engine_core.specs.EngineModel.{EngineModel}
 use Rattle.tree_switch.specs.Courses.{IsCourse}
 use Rattle.tree_switch.proofs.GoingOn.{further}
 use Rattle.tree_switch.proofs.Starting.{asked, same_events}
-use Rattle.epoch_store.specs.Told.{events_after}
+use Rattle.teb_rules.specs.Told.{events_after}
 
 -- after a request, whether or not it was asked
 pub goes_on : (past : List EngineModel) (e f : EngineModel) (s : Session) (r : Request) (o : Option Reply) → f.store ≡ e.store → f.names ≡ e.names

@@ -18,7 +18,7 @@ use Rattle.engine_core.specs.EngineModel.{EngineModel, IsOfEngine, IsReached}
 use Rattle.engine_core.proofs.Reached.{law_of, reached_more}
 use Rattle.commit_laws.specs.Commits.{commit_count, rows_after}
 use Rattle.commit_journal.proofs.Asked.{reads_reached}
-use Rattle.epoch_store.specs.Told.{events_after}
+use Rattle.teb_rules.specs.Told.{events_after}
 use Rattle.engine_store.specs.Lives.{Epoch, IsEpoch, IsLife, LivesOn, epoch_of, epoch_with, left_by}
 use Rattle.engine_store.proofs.WholeLife.{all_kept}
 

@@ -3,8 +3,8 @@ use Rattle.std.specs.Prelude.{◌≡◌, ◌≢◌, ℕ, ◌+◌, ◌*◌, ◌<�
 use Rattle.teb_rules.specs.declared.names.Cell.{Cell}
 use Rattle.engine_core.specs.EngineModel.{EngineModel}
 use Rattle.crash_disk.specs.Calls.{Tally, IsUpTo}
-use Rattle.serial_order.specs.Tables.{IsFinalRows}
-use Rattle.tree_switch.specs.Refusals.{IsLeast, IsUnfinished, IsUntold, AllFinished, IsDrained}
+use Rattle.teb_rules.specs.Epochs.{AreFinalRows, IsDrained, IsUntold}
+use Rattle.tree_switch.specs.Refusals.{IsLeast, IsUnfinished, AllFinished}
 use Rattle.epoch_journal.specs.Layout.{Layout, half_size}
 use Rattle.epoch_journal.specs.declared.error.CheckpointError.{CheckpointError}
 use Rattle.epoch_journal.specs.declared.error.CheckpointError.TheVariants as checkpoint
@@ -19,13 +19,13 @@ pub record MayFollow (e : EngineModel) (tables : List (List ℕ)) : Type 0 where
 -- the final rows do not fit a half of the disk, behind the label
 pub record HasNoRoom (l : Layout) (e : EngineModel) : Type 0 where
   pub rows : List (Cell × ℤ)
-  pub final : IsFinalRows e.store e.events rows
+  pub final : AreFinalRows e.store e.events rows
   pub long : half_size l.capacity < 10 + length l.label + 14 * length rows
 
 -- at most four calls of the disk, which write the label, the final rows, and the byte that makes their half current
 pub record WritesFinalRows (l : Layout) (e : EngineModel) (old new : Tally) : Type 0 where
   pub rows : List (Cell × ℤ)
-  pub final : IsFinalRows e.store e.events rows
+  pub final : AreFinalRows e.store e.events rows
   pub calls : IsUpTo 4 (11 + length l.label + 14 * length rows) old new
 
 -- what stands against an engine over these tables, before the disk is looked at

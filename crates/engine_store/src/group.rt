@@ -17,7 +17,8 @@ ghost use Rattle.commit_laws.specs.Commits.{commit_count};
 ghost use Rattle.commit_journal.specs.Kept.{IsFull};
 ghost use Rattle.epoch_journal.specs.Layout.{half_size};
 ghost use Rattle.epoch_store.specs.Gathering.{size_of};
-ghost use Rattle.epoch_store.specs.Told.{IsToldBy, events_after, told};
+ghost use Rattle.epoch_store.specs.Told.{told};
+ghost use Rattle.teb_rules.specs.Told.{IsToldBy, events_after};
 ghost use Rattle.epoch_store.specs.declared.error.AskError.TheVariants as errors;
 ghost use Rattle.engine_store.specs.Lives.{Epoch, IsLife, IsSerialLife, epochs};
 ghost use Rattle.engine_store.specs.Telling.{TellsCommits};
@@ -114,7 +115,7 @@ impl<C: Chains, D: Disk> EngineGroup<C, D> {
     /// refused memory.
     ///
     /// # Errors
-    /// `Failed` if a call of the disk fails. The store is stopped. Each crash leaves the commits that were acknowledged, and at most the first of those that wait.
+    /// `Failed` if a call of the disk fails. The store is stopped. Each crash leaves the commits that were acknowledged, and perhaps the oldest of those that wait, in their order.
     pub fn sync(self) -> (EngineStore<C, D>, Result<(), Failed>)
         ensures engine { result.0.engine ≡ self.engine }
         ensures layout { result.0.journal.layout ≡ self.journal.layout }

@@ -1,12 +1,15 @@
 //! How commits that were taken are written.
 
-ghost use Rattle.std.specs.Prelude.{◌≡◌, ◌+◌, [], Ok, true, false, OnOk, OnErr, List, ℕ};
+ghost use Rattle.std.specs.Prelude.{◌≡◌, ◌+◌, ◌<◌, [], Ok, true, false, IsErrOf, OnOk, OnErr, List, ℕ};
+ghost use Rattle.teb_io.specs.Faults.{Rose};
 ghost use Rattle.teb_rules.specs.declared.history.Event.{Event};
 ghost use Rattle.teb_rules.specs.Setup.{Store};
 ghost use Rattle.crash_disk.specs.Calls.{IsUpTo};
 ghost use Rattle.crash_disk.specs.Disk.{LeavesOnly};
 ghost use Rattle.commit_laws.specs.Commits.{commit_count};
 ghost use Rattle.epoch_journal.specs.Group.{group_size};
+ghost use Rattle.epoch_journal.specs.Layout.{half_size};
+ghost use Rattle.epoch_store.specs.declared.error.WriteError.TheVariants as errors;
 ghost use Rattle.engine_store.specs.Halves.{AreCommitsSince, KeepsCommits};
 ghost use Rattle.engine_store.specs.Telling.{TellsCommits};
 
@@ -41,6 +44,9 @@ pub fn write_commits<D: Disk>(
     ensures running { OnOk result (journal.new.stopped ≡ false) }
     ensures stopped { OnErr result (journal.new.stopped ≡ true) }
     ensures layout { journal.new.layout ≡ journal.old.layout }
+    ensures end { OnOk result (journal.new.end ≡ journal.old.end + group_size commits.now) }
+    ensures full { IsErrOf result errors.Full → half_size journal.old.layout.capacity < journal.old.end + 1 + group_size commits.now }
+    ensures fault { IsErrOf result errors.DiskFault → Rose (D.faults journal.old.disk) (D.faults journal.new.disk) }
     ensures untouched { commits.now.records ≡ [] → (journal.new ≡ journal.old) × (result ≡ Ok tt) }
     ensures memory { D.refusals journal.new.disk ≡ D.refusals journal.old.disk }
     ensures calls { IsUpTo 4 (group_size commits.now + 1) (D.tally journal.old.disk) (D.tally journal.new.disk) }

@@ -11,7 +11,8 @@ unfolding IsCounted
 counted tells calls faults faults' refusals refusals' result is = is
 
 module _ {D : Type 0} (tells_failures : D → Type 0) (tally : D → Tally) (refusals : D → ℕ) where
-  pub still_reliable : (old new : D) → (tally new).promise ≡ (tally old).promise → refusals new ≡ refusals old → IsReliable tells_failures tally refusals old → IsReliable tells_failures tally refusals new
+  pub still_reliable : (old new : D) → (tally new).promise ≡ (tally old).promise → refusals new ≡ refusals old → IsReliable tells_failures tally refusals old
+      → IsReliable tells_failures tally refusals new
   still_reliable old new promise same reliable = record {
     tells = reliable.tells;
     no_stop = ap (λ (p : Promise). p.stop) promise ∙ reliable.no_stop;

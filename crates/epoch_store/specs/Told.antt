@@ -1,8 +1,7 @@
 -- What became of a request.
-use Rattle.std.specs.Prelude.{◌≡◌, ℕ, ◌+◌, List, Option, Some, None, Result, Ok, Err}
+use Rattle.std.specs.Prelude.{ℕ, ◌+◌, Option, Some, None, Result, Ok, Err}
 use Rattle.teb_rules.specs.declared.names.Reply.{Reply}
 use Rattle.teb_rules.specs.declared.names.Reply.TheVariants.{Committed}
-use Rattle.teb_rules.specs.declared.history.Event.{Event}
 use Rattle.epoch_store.specs.declared.recorder.PrepareError.{PrepareError}
 use Rattle.epoch_store.specs.declared.recorder.PrepareError.TheVariants as prepare
 use Rattle.epoch_store.specs.declared.error.AskError.{AskError}
@@ -19,16 +18,6 @@ told (Err Unsure) = Some Committed
 told (Err Stopped) = None
 told (Err Full) = None
 told (Err OutOfMemory) = None
-
--- a reply that was told is this one
-abbrev pub IsToldBy : Option Reply → Reply → Type 0
-IsToldBy (Some r) a = r ≡ a
-IsToldBy None a = Unit {0}
-
--- the history after it
-abbrev pub events_after : Option Reply → List Event → List Event → List Event
-events_after (Some r) before after = after
-events_after None before after = before
 
 -- how many commits of the epoch are acknowledged after a request: one more if a commit was answered
 abbrev pub acknowledged_after : ℕ → Result Reply AskError → ℕ

@@ -12,7 +12,8 @@ ghost use Rattle.epoch_journal.specs.Layout.{half_size};
 ghost use Rattle.epoch_journal.specs.Telling.{TellsOn};
 ghost use Rattle.epoch_journal.specs.Memory.{IsForRecord};
 ghost use Rattle.epoch_store.specs.Gathering.{size_of};
-ghost use Rattle.epoch_store.specs.Told.{IsToldBy, events_after, told};
+ghost use Rattle.epoch_store.specs.Told.{told};
+ghost use Rattle.teb_rules.specs.Told.{IsToldBy, events_after};
 ghost use Rattle.epoch_store.specs.declared.error.AskError.TheVariants as errors;
 
 use crate::error::AskError;
@@ -125,7 +126,7 @@ impl<E: Recorder, D: Disk> GroupCommit<E, D> {
     /// refused memory.
     ///
     /// # Errors
-    /// `Failed` if a call of the disk fails. The store is stopped. Each crash leaves the commits that were acknowledged, and at most the first of those that wait.
+    /// `Failed` if a call of the disk fails. The store is stopped. Each crash leaves the commits that were acknowledged, and perhaps the oldest of those that wait, in their order.
     pub fn sync(self) -> (EpochStore<E, D>, Result<(), Failed>)
         ensures engine { result.0.engine ≡ self.engine }
         ensures layout { result.0.journal.layout ≡ self.journal.layout }

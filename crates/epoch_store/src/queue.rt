@@ -16,7 +16,8 @@ ghost use Rattle.epoch_journal.specs.Telling.{TellsOn};
 ghost use Rattle.epoch_journal.specs.Kept.{Keeps};
 ghost use Rattle.epoch_journal.specs.declared.error.CheckpointError.TheVariants as epochs;
 ghost use Rattle.epoch_store.specs.Gathering.{size_of};
-ghost use Rattle.epoch_store.specs.Told.{IsToldBy, events_after, told};
+ghost use Rattle.epoch_store.specs.Told.{told};
+ghost use Rattle.teb_rules.specs.Told.{IsToldBy, events_after};
 ghost use Rattle.epoch_store.specs.declared.error.AskError.TheVariants as errors;
 
 use crate::error::{AskError, NotBegun};

@@ -17,7 +17,8 @@ ghost use Rattle.epoch_journal.specs.Kept.{Keeps};
 ghost use Rattle.epoch_journal.specs.Memory.{IsForRecord};
 ghost use Rattle.epoch_journal.specs.Refusals.{IsReliable};
 ghost use Rattle.epoch_journal.specs.declared.error.CheckpointError.TheVariants as epochs;
-ghost use Rattle.epoch_store.specs.Told.{IsToldBy, acknowledged_after, events_after, told};
+ghost use Rattle.epoch_store.specs.Told.{acknowledged_after, told};
+ghost use Rattle.teb_rules.specs.Told.{IsToldBy, events_after};
 ghost use Rattle.epoch_store.specs.declared.error.AskError.TheVariants as errors;
 
 use crate::error::{AskError, NotBegun};
