@@ -36,7 +36,8 @@ adds_more n old mid new p q = record {
 }
 
 -- a request that the session makes for another session adds only an entry for it
-pub adds_for_other : (first : Stage) (by s : Session) (q : Request) (o : Result TheReply UnaskedError) (old new : List LifeEntry) → s.0 ≢ by.0 → AddsResult first by s q o old new → AddsForOthers by.0 old new
+pub adds_for_other : (first : Stage) (by s : Session) (q : Request) (o : Result TheReply UnaskedError) (old new : List LifeEntry) → s.0 ≢ by.0 → AddsResult first by s q o old new
+    → AddsForOthers by.0 old new
 adds_for_other first by s q (Ok r) old new o a = adds_one by.0 (Asked by s q a.short) old new (for_other by s q a.short o) a.is
 adds_for_other first by s q (Err f) old new o a = adds_nothing by.0 old new a
 

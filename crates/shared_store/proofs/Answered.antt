@@ -19,8 +19,8 @@ use Rattle.shared_store.specs.declared.session.TheConstants.{MOST_ASKS, MOST_TUR
 use Rattle.shared_store.specs.Known.{Knows}
 use Rattle.shared_store.specs.Stages.{Stage}
 use Rattle.shared_store.specs.Lives.{calls_of}
-use Rattle.shared_store.specs.Gaining.{Gains, NotToldAt, SafeAt, SeesCall, SeesFree, SeesNoCall, TakesTurns, is_commit_reply}
-use Rattle.shared_store.specs.Sharing.{GoesOn, IsAnswered, IsNotTold, IsSafe, IsUnasked, WasFree, seen}
+use Rattle.shared_store.specs.Gaining.{Gains, NotToldAt, SafeAt, SeesCall, SeesEnd, SeesFree, SeesNoCall, TakesTurns, is_commit_reply}
+use Rattle.shared_store.specs.Sharing.{GoesOn, HasEnded, IsAnswered, IsNotTold, IsSafe, IsUnasked, WasFree, seen}
 
 -- what a seat gains, by the result
 module _ (b : Stage) (s : Session) (q : Request) (v w : View LifeEntry Stage) where
@@ -75,10 +75,15 @@ module _ {V L B : Type 0} {g : Ghosts V L B} (b : Stage) (old new : StoreSession
 pub was_free : {V L B : Type 0} {g : Ghosts V L B} (b : Stage) (old new : StoreSession V L B g) → SeesFree b old.session (view_of old.seat) (view_of new.seat) → WasFree b old new
 was_free b old new m = record { between = m.between; more = m.more; stage = m.stage; is = m.is; leads = m.leads; free = m.free }
 
+pub has_ended : {V L B : Type 0} {g : Ghosts V L B} (b : Stage) (old new : StoreSession V L B g) (other : Session) → SeesEnd b old.session other (view_of old.seat) (view_of new.seat)
+    → HasEnded b old new other
+has_ended b old new other m = record { between = m.between; short = m.short; stage = m.stage; is = m.is; leads = m.leads; short_of = m.short_of }
+
 pub safe : {V L B : Type 0} {g : Ghosts V L B} (b : Stage) (p : StoreSession V L B g) → SafeAt b (view_of p.seat).seen (view_of p.log_seat).seen → IsSafe b p
 safe b p s = record { stage = s.stage; leads = s.leads; kept = s.kept }
 
-pub not_told : {V L B : Type 0} {g : Ghosts V L B} (b : Stage) (old new : StoreSession V L B g) → NotToldAt b (view_of new.seat).seen (view_of old.log_seat) (view_of new.log_seat) → IsNotTold b old new
+pub not_told : {V L B : Type 0} {g : Ghosts V L B} (b : Stage) (old new : StoreSession V L B g) → NotToldAt b (view_of new.seat).seen (view_of old.log_seat) (view_of new.log_seat)
+    → IsNotTold b old new
 not_told b old new n = record { stage = n.stage; leads = n.leads; fewer = n.fewer; looked = n.looked }
 
 -- what a session's seat knows after some turns

@@ -20,7 +20,8 @@ use Rattle.teb_rules.specs.history.Accesses.{last_put, last_got}
 use Rattle.teb_rules.specs.Setup.{Setup, Store, profile}
 use Rattle.teb_rules.specs.Steps.{least_step, cursor}
 use Rattle.teb_rules.specs.Cascade.{txn, abort, fall_in_turn, cascade, blamed}
-use Rattle.teb_rules.specs.Answer.{Answered, answer, answer_to, answer_of, answer_new, refuse, broken_off, begin_or_wait, or_stop, or_refused, put_value, added, add_base, fits, read_all, scan_values, is_scan, cells_from}
+use Rattle.teb_rules.specs.Answer.{Answered, answer, answer_to, answer_of, answer_new, refuse, broken_off, begin_or_wait, or_stop}
+use Rattle.teb_rules.specs.Answer.{or_refused, put_value, added, add_base, fits, read_all, scan_values, is_scan, cells_from}
 use Rattle.teb_rules.specs.Stops.{begin_stop, access_stop, scan_stop, prepare_stop, commit_stop}
 use Rattle.teb_rules.specs.Verdicts.{cause_at}
 use Rattle.teb_rules.specs.Versions.{read}

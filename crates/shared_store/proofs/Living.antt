@@ -106,7 +106,8 @@ module _ (first : Stage) (x y : Standing) (past : ℕ) (stopped : Bool) (commits
   })
 
   -- the commits that were taken are brought to the log
-  pub brings_all : (w : List Event → Type 0) (brings : Store → List Event → List Event → Type 0) (new : List LifeEntry) → new ≡ es ++ CommitsTaken ∷ [] → ((H : List Event) → w H → brings x.store H x.events)
+  pub brings_all : (w : List Event → Type 0) (brings : Store → List Event → List Event → Type 0) (new : List LifeEntry) → new ≡ es ++ CommitsTaken ∷ []
+      → ((H : List Event) → w H → brings x.store H x.events)
       → ∥ IsWaiting w first now es ∥₁ → ∥ IsBrought brings first commits es new ∥₁
   brings_all w brings new is b h = ∥∥₁_map₂ h l.leads (λ q r. record {
     before = q.taken;

@@ -24,11 +24,11 @@ use Rattle.shared_store.specs.Beginning.{holds}
 use Rattle.shared_store.specs.Stages.{Stage, first_stage}
 use Rattle.shared_store.specs.Holding.{IsBrought, IsKept, stage_of}
 use Rattle.shared_store.specs.Seated.{IsKeptAt}
-use Rattle.shared_store.specs.Lives.{IsLegalLife, LeadsTo, Runs, calls_of, has_stop, owner_of, taken_of}
+use Rattle.shared_store.specs.Lives.{IsLegalLife, IsShortOf, LeadsTo, Runs, calls_of, has_stop, owner_of, taken_of}
 use Rattle.shared_store.specs.Hosting.{entries_in, note_in, first_of}
-use Rattle.shared_store.specs.Turning.{AddsCall, AddsForOthers, GrowsBy, IsNumbered}
+use Rattle.shared_store.specs.Turning.{AddsCall, AddsEnd, AddsForOthers, GrowsBy, IsNumbered}
 use Rattle.shared_store.specs.Turning as turning
-use Rattle.shared_store.specs.Gaining.{IsCountedIn, LogTurn, Sees, SeesCall, SeesFree, SeesNoCall, TakesBatch, TakesNone, TakesTurns}
+use Rattle.shared_store.specs.Gaining.{IsCountedIn, LogTurn, Sees, SeesCall, SeesEnd, SeesFree, SeesNoCall, TakesBatch, TakesNone, TakesTurns, TellsFailure}
 use Rattle.shared_store.proofs.Calls.{calls_append, for_others_none, one_call, others_none}
 use Rattle.shared_store.proofs.Courses.{others_stop_none, others_take_none, stop_behind, taken_behind}
 use Rattle.shared_store.proofs.Living.{is_legal}
@@ -174,6 +174,20 @@ module _ {V L B : Type 0} {g : Ghosts V L B} (s : Session) (v0 v1 : View LifeEnt
     free = n;
   }
 
+  -- it ended the transaction of another session
+  pub sees_end : (b : Stage) (other : Session) → v0.base ≡ Some b → AddsEnd (first_of x0) s other (entries_in x0) (entries_in x1) → SeesEnd b s other v0 w
+  sees_end b other h a =
+      let at : AddsEnd b s other (v0.seen ++ t.follows.goes.more) w.seen = found s.0 v0 v1 x0 x1 w t e (λ (l m : List LifeEntry). AddsEnd b s other l m)
+      (subst (λ (y : Stage). AddsEnd y s other (entries_in x0) (entries_in x1)) (first_is s.0 v0 v1 x0 x1 w t e b h) a) in
+      record {
+        between = t.follows.goes.more;
+        short = at.1.short;
+        stage = at.1.stage;
+        is = at.1.is;
+        leads = at.1.leads;
+        short_of = subst (λ (r : TheReply). IsShortOf r at.1.short) at.1.reply at.1.short_of;
+      }
+
   pub sees_none : AddsForOthers s.0 (entries_in x0) (entries_in x1) → SeesNoCall s.0 v0 w
   sees_none a = sees_no_call s v0 w t.owner t.follows.goes.more t.follows.goes.others (found s.0 v0 v1 x0 x1 w t e (λ (l m : List LifeEntry). AddsForOthers s.0 l m) a)
 
@@ -210,6 +224,9 @@ module _ {V L B : Type 0} {g : Ghosts V L B} (v0 v1 : View LifeEntry Stage) (x0 
 
     pub takes_none : entries_in x1 ≡ entries_in x0 ++ LogFailed ∷ [] → TakesNone v0 w
     takes_none is = record { same = ap taken_of (seen LOG_SEAT v0 v1 x0 x1 w t e ∙ is) ∙ (taken_behind (entries_in x0) (LogFailed ∷ []) refl ∙ still) }
+
+    pub tells_failure : entries_in x1 ≡ entries_in x0 ++ LogFailed ∷ [] → TellsFailure w.seen
+    tells_failure is = record { before = entries_in x0; is = seen LOG_SEAT v0 v1 x0 x1 w t e ∙ is }
 
     -- what the log keeps of what the seat has seen, it keeps of the life in x0
     pub kept_found : (keep : Store → List Event → ℕ → Type 0) (failed : Bool) (total : ℕ) → IsKeptAt keep failed total v0 → ∥ IsKept keep (first_of x0) failed total (entries_in x0) ∥₁

@@ -3,13 +3,14 @@ use Rattle.std.specs.Prelude.{◌≡◌, ℕ, ◌+◌, ◌<◌, ◌≤◌, List,
 use Rattle.teb_rules.specs.declared.names.Reply.{Reply as TheReply}
 use Rattle.teb_rules.specs.declared.names.Reply.TheVariants.{Committed}
 use Rattle.teb_rules.specs.declared.names.Request.{Request}
+use Rattle.teb_rules.specs.declared.names.Request.TheVariants.{End}
 use Rattle.teb_rules.specs.declared.names.Session.{Session}
 use Rattle.teb_rules.specs.declared.history.Event.{Event}
 use Rattle.teb_rules.specs.Setup.{Store}
 use Rattle.short_reply.specs.declared.ShortReply.{ShortReply}
 use Rattle.turn_lock.specs.declared.view.View.{View}
 use Rattle.shared_store.specs.declared.entry.LifeEntry.{LifeEntry}
-use Rattle.shared_store.specs.declared.entry.LifeEntry.TheVariants.{Asked}
+use Rattle.shared_store.specs.declared.entry.LifeEntry.TheVariants.{Asked, LogFailed}
 use Rattle.shared_store.specs.declared.answer.Answer.{Answer}
 use Rattle.shared_store.specs.declared.answer.Answer.TheVariants as answer
 use Rattle.shared_store.specs.declared.kept.Kept.{Kept}
@@ -57,6 +58,15 @@ pub record SeesCall (b : Stage) (s : Session) (q : Request) (r : TheReply) (v w 
   pub short_of : IsShortOf r short
   pub calls : calls_of s.0 w.seen ≡ calls_of s.0 v.seen ++ Asked s s q short ∷ []
 
+-- what was seen goes on, and ends with an End of session `other`, asked at the turn of session s
+pub record SeesEnd (b : Stage) (s other : Session) (v w : View LifeEntry Stage) : Type 0 where
+  pub between : List LifeEntry
+  pub short : Option ShortReply
+  pub stage : Stage
+  pub is : w.seen ≡ (v.seen ++ between) ++ Asked s other End short ∷ []
+  pub leads : LeadsTo b (v.seen ++ between) stage
+  pub short_of : IsShortOf (reply_at stage other End) short
+
 -- what the seat sees by an answer
 abbrev pub Sees : Stage → Session → Request → Answer → View LifeEntry Stage → View LifeEntry Stage → Type 0
 Sees b s q (answer.Reply (Reply r) n) v w = SeesCall b s q r v w
@@ -86,6 +96,11 @@ pub record LogTurn (v w : View LifeEntry Stage) : Type 0 where
 -- it took a batch of commits
 pub record TakesBatch (brings : Store → List Event → List Event → Type 0) (commits : ℕ) (v w : View LifeEntry Stage) : Type 0 where
   pub brought : (b : Stage) → v.base ≡ Some b → ∥ IsBrought brings b commits v.seen w.seen ∥₁
+
+-- the last entry tells that the log has failed
+pub record TellsFailure (seen : List LifeEntry) : Type 0 where
+  pub before : List LifeEntry
+  pub is : seen ≡ before ++ LogFailed ∷ []
 
 -- it left where the list was last taken
 pub record TakesNone (v w : View LifeEntry Stage) : Type 0 where

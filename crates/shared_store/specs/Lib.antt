@@ -6,6 +6,7 @@ pub mod Commits
 pub mod Holding
 pub mod Turning
 pub mod Hosting
+pub mod Notices
 pub mod Places
 pub mod Totals
 pub mod Seated

@@ -2,6 +2,8 @@
 use Rattle.std.specs.Prelude.{◌≡◌, ℕ, ◌+◌, ◌<◌, ◌≤◌, List, [], ◌∷◌, ◌++◌, false, Option, Some}
 use Rattle.teb_rules.specs.declared.names.Reply.{Reply}
 use Rattle.teb_rules.specs.declared.names.Request.{Request}
+use Rattle.teb_rules.specs.declared.names.Request.TheVariants.{End}
+use Rattle.teb_rules.specs.declared.names.Session.{Session}
 use Rattle.short_reply.specs.declared.ShortReply.{ShortReply}
 use Rattle.turn_lock.specs.Seats.{base_in, view_of, IsOf}
 use Rattle.turn_lock.specs.declared.turn.Turn.{Turn}
@@ -80,6 +82,15 @@ module _ {V L B : Type 0} {g : Ghosts V L B} where
   pub record IsUnasked (b : Stage) (old new : StoreSession V L B g) : Type 0 where
     pub goes_on : GoesOn b old new
     pub calls : own_calls new ≡ own_calls old
+
+  -- the life that it has seen ends with an End of the other session, asked at its turn after all that it had seen, which the rules answered there
+  pub record HasEnded (b : Stage) (old new : StoreSession V L B g) (other : Session) : Type 0 where
+    pub between : List LifeEntry
+    pub short : Option ShortReply
+    pub stage : Stage
+    pub is : seen new ≡ (seen old ++ between) ++ Asked old.session other End short ∷ []
+    pub leads : LeadsTo b (seen old ++ between) stage
+    pub short_of : IsShortOf (reply_at stage other End) short
 
   -- at a place of the life after all that it had seen, and among what it has seen now, it holds no transaction
   pub record WasFree (b : Stage) (old new : StoreSession V L B g) : Type 0 where

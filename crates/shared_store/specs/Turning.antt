@@ -2,6 +2,7 @@
 use Rattle.std.specs.Prelude.{◌≡◌, ℕ, List, ◌∷◌, [], ◌++◌, Option, All, Result, Ok, Err}
 use Rattle.teb_rules.specs.declared.names.Reply.{Reply as TheReply}
 use Rattle.teb_rules.specs.declared.names.Request.{Request}
+use Rattle.teb_rules.specs.declared.names.Request.TheVariants.{End}
 use Rattle.teb_rules.specs.declared.names.Session.{Session}
 use Rattle.short_reply.specs.declared.ShortReply.{ShortReply}
 use Rattle.shared_store.specs.declared.entry.LifeEntry.{LifeEntry}
@@ -26,6 +27,10 @@ pub record AddsAsked (first : Stage) (by s : Session) (q : Request) (r : TheRepl
 abbrev pub AddsResult : Stage → Session → Session → Request → Result TheReply UnaskedError → List LifeEntry → List LifeEntry → Type 0
 AddsResult first by s q (Ok r) old new = AddsAsked first by s q r old new
 AddsResult first by s q (Err f) old new = new ≡ old
+
+-- an End of session s is added, asked at the turn of session `by`, which the rules answered
+abbrev pub AddsEnd : Stage → Session → Session → List LifeEntry → List LifeEntry → Type 0
+AddsEnd first by s old new = (r : TheReply) × AddsAsked first by s End r old new
 
 -- further entries, all at the turn of session n
 pub record GrowsBy (n : ℕ) (old new : List LifeEntry) : Type 0 where

@@ -7,7 +7,7 @@ ghost use Rattle.shared_store.specs.declared.error.UnaskedError.{UnaskedError as
 ghost use Rattle.shared_store.specs.declared.error.StoreError.TheVariants as errors;
 ghost use Rattle.shared_store.specs.declared.reply.StoreReply.TheVariants as store_replies;
 ghost use Rattle.shared_store.specs.Beginning.{IsBegin};
-ghost use Rattle.shared_store.specs.Sharing.{base_of, IsAnswered, IsNotTold, IsSafe, IsSessionOf, IsUnasked, WasFree, told};
+ghost use Rattle.shared_store.specs.Sharing.{base_of, HasEnded, IsAnswered, IsNotTold, IsSafe, IsSessionOf, IsUnasked, WasFree, told};
 
 use crate::error::{AskError, StoreError};
 use crate::reply::StoreReply;
@@ -62,12 +62,12 @@ impl<S: EpochServer> StoreSession<S> {
         match self.ask_through(store, rt, alloc, request) {
             Ok(reply) => Ok(reply),
             Err(AskError::Unsure) => Err(StoreError::Unsure),
-            Err(AskError::Unasked(fault)) => Err(StoreError::Unasked(fault)),
+            Err(AskError::Unasked(error)) => Err(StoreError::Unasked(error)),
         }
     }
 
     /// Ends the transaction of another session, at the turn of this one, for which it waits. The other is told at its next call. It is for
-    /// a session that is silent, and holds up others.
+    /// a session that is silent, and holds up others. After `Ok` the last entry of the life that this session has seen is the End of the other.
     ///
     /// # Errors
     /// Those of `ask`, except `Unsure`. Nothing was ended.
@@ -83,6 +83,7 @@ impl<S: EpochServer> StoreSession<S> {
         ensures session { IsSessionOf store.now self.new × (self.new.session ≡ self.old.session) }
         ensures still { told self.new ≡ told self.old }
         ensures ended { OnOk result (IsUnasked (base_of store.now) self.old self.new) }
+        ensures other_ended { OnOk result (HasEnded (base_of store.now) self.old self.new other) }
         ensures unasked { (f : TheUnaskedError) → IsErrOf result (errors.Unasked f) → IsUnasked (base_of store.now) self.old self.new }
         ensures spent { IsErrOf result errors.Spent → self.new ≡ self.old }
         ensures when { (result ≡ Err errors.Spent) ↔ (self.old.asks ≡ MOST_ASKS) }
@@ -98,7 +99,7 @@ impl<S: EpochServer> StoreSession<S> {
         self.asks += 1;
         match ended {
             Ok(()) => Ok(()),
-            Err(fault) => Err(StoreError::Unasked(fault)),
+            Err(error) => Err(StoreError::Unasked(error)),
         }
     }
 }

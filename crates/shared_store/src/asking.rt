@@ -56,7 +56,7 @@ impl<S: EpochServer> StoreSession<S> {
                 Ok(reply)
             }
             Answer::Drained => Ok(StoreReply::Later),
-            Answer::Unasked(fault) => Err(AskError::Unasked(fault)),
+            Answer::Unasked(error) => Err(AskError::Unasked(error)),
         }
     }
 
@@ -82,8 +82,8 @@ impl<S: EpochServer> StoreSession<S> {
         let Answer::Drained = first else {
             return first;
         };
-        if let Err(fault) = self.end_epoch(store, rt, alloc) {
-            return Answer::Unasked(fault);
+        if let Err(error) = self.end_epoch(store, rt, alloc) {
+            return Answer::Unasked(error);
         }
         self.ask_once(store, rt, alloc, request)
     }

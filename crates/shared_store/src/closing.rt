@@ -60,7 +60,7 @@ impl<S: EpochServer> Hosted<S> {
     }
 
     /// Ends the transaction of each session that holds one, writes what waits, and ends the epoch. If the log had failed before, nothing is
-    /// asked or written. If the End of a transaction has a fault, the rest is done nevertheless, and what keeps the epoch from its end is told.
+    /// asked or written. If the End of a transaction meets an error, the rest is done nevertheless, and what keeps the epoch from its end is told.
     fn run_down(self, alloc: Global, log: S::Log, total: u64) -> LastEpoch<S>
         requires kept { ∥ IsKept (S.keeps log) (first_stage (S.standing self.first.value)) (S.failed log) total self.entries.items ∥₁ }
         ensures first { result.hosted.first ≡ self.first }
@@ -130,13 +130,13 @@ impl<S: EpochServer> RunningLog<S> {
                 let FailedLog {
                     hosted,
                     log,
-                    fault,
+                    error,
                     ..
                 } = failed;
                 return LastEpoch {
                     hosted,
                     log,
-                    checkpoint: Err(NoCheckpoint::Failed(fault)),
+                    checkpoint: Err(NoCheckpoint::Failed(error)),
                 };
             }
         };
@@ -165,7 +165,7 @@ impl<S: EpochServer> WrittenLog<S> {
         let NextEpoch { hosted, log, begun } = epoch.begin_next(alloc);
         let checkpoint = match begun {
             Ok(()) => Ok(()),
-            Err(fault) => Err(NoCheckpoint::Failed(fault)),
+            Err(error) => Err(NoCheckpoint::Failed(error)),
         };
         LastEpoch {
             hosted,

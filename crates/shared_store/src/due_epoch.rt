@@ -6,7 +6,7 @@ ghost use Rattle.shared_store.specs.Ending.{AddsNoCalls};
 ghost use Rattle.shared_store.specs.Holding.{IsKept};
 ghost use Rattle.shared_store.specs.Lives.{taken_of};
 ghost use Rattle.shared_store.specs.Reasons.{IsCause, IsCheckpointed};
-ghost use Rattle.shared_store.specs.Served.{IsDrained};
+ghost use Rattle.teb_rules.specs.Epochs.{IsDrained};
 ghost use Rattle.shared_store.specs.Stages.{first_stage};
 ghost use Rattle.shared_store.specs.Turning.{GrowsBy};
 
@@ -55,6 +55,7 @@ pub(crate) struct EndedEpoch<S: EpochServer> {
     /// An error if the epoch could not be ended. It goes on then.
     pub(crate) ended: Result<(), UnaskedError>,
     ghost running: { S.failed log ≡ failed },
+    ghost told: { failed ≡ true → hosted.stopped ≡ true },
     ghost kept: { ∥ IsKept (S.keeps log) (first_stage (S.standing hosted.first.value)) failed total hosted.entries.items ∥₁ },
 }
 
@@ -95,7 +96,7 @@ impl<S: EpochServer> DueEpoch<S> {
                     mut hosted,
                     log,
                     total,
-                    fault,
+                    error,
                 } = failed;
                 hosted.stop();
                 return EndedEpoch {
@@ -103,7 +104,7 @@ impl<S: EpochServer> DueEpoch<S> {
                     log,
                     total,
                     failed: true,
-                    ended: Err(fault),
+                    ended: Err(error),
                 };
             }
         };
@@ -147,7 +148,7 @@ impl<S: EpochServer> WrittenEpoch<S> {
             stopped,
         } = hosted;
         let (server, log, begun) = server.next_epoch(log, alloc);
-        if let Err(fault) = begun {
+        if let Err(error) = begun {
             let hosted = Hosted {
                 server,
                 entries,
@@ -160,7 +161,7 @@ impl<S: EpochServer> WrittenEpoch<S> {
             return NextEpoch {
                 hosted,
                 log,
-                begun: Err(fault),
+                begun: Err(error),
             };
         }
         entries.push(LifeEntry::EpochEnded);

@@ -1,16 +1,24 @@
 //! The value that goes from turn to turn at the front: the server, with what proofs know of its life.
 
-ghost use Rattle.std.specs.Prelude.{◌≡◌, ◌≢◌, ◌≤◌, [], ◌∷◌, ◌++◌, true, false, IfOk, IfErr};
+ghost use Rattle.std.specs.Prelude.{◌≡◌, ◌≢◌, ◌<◌, ◌≤◌, ℕ, [], ◌∷◌, ◌++◌, length, true, false, Some, None, IfOk, IfErr, IsErrOf, OnOk};
+ghost use Rattle.teb_rules.specs.declared.names.Cause.{Cause as TheCause};
+ghost use Rattle.teb_rules.specs.declared.names.Reply.TheVariants as replies;
+ghost use Rattle.short_reply.specs.declared.ShortReply.{ShortReply as TheShortReply};
+ghost use Rattle.short_reply.specs.declared.ShortReply.TheVariants as shorts;
 ghost use Rattle.teb_rules.specs.declared.names.TheConstants.{SESSIONS};
+ghost use Rattle.shared_store.specs.declared.answer.Answer.TheVariants as answers;
 ghost use Rattle.shared_store.specs.declared.entry.LifeEntry.TheVariants as entries;
 ghost use Rattle.shared_store.specs.declared.entry.TheConstants.{LOG_SEAT};
+ghost use Rattle.shared_store.specs.declared.error.UnaskedError.TheVariants as unasked;
+ghost use Rattle.shared_store.specs.declared.reply.StoreReply.TheVariants as store_replies;
 ghost use Rattle.shared_store.specs.Beginning.{HasRoomFor, IsBegin, holds};
 ghost use Rattle.shared_store.specs.Commits.{commits_in};
 ghost use Rattle.shared_store.specs.Holding.{IsBrought, IsLifeOf, IsWaiting, stage_of};
+ghost use Rattle.shared_store.specs.Notices.{notice_of};
 ghost use Rattle.shared_store.specs.Lives.{IsShortOf, owner_of, taken_of};
-ghost use Rattle.shared_store.specs.Served.{IsDrained};
+ghost use Rattle.teb_rules.specs.Epochs.{IsDrained};
 ghost use Rattle.shared_store.specs.Stages.{first_stage};
-ghost use Rattle.shared_store.specs.Turning.{Adds, AddsForOthers, AddsResult, GrowsBy, IsNumbered, IsOfRules, IsPutOff};
+ghost use Rattle.shared_store.specs.Turning.{Adds, AddsEnd, AddsForOthers, AddsResult, GrowsBy, IsNumbered, IsOfRules, IsPutOff};
 
 use crate::answer::Answer;
 use crate::entry::LifeEntry;
@@ -100,6 +108,8 @@ impl<S: EpochServer> Hosted<S> {
         ensures first { self.new.first ≡ self.old.first }
         ensures open { IsBegin request → IsOfRules result → S.ending self.old.server ≡ true → holds (S.standing self.old.server).events session ≡ true }
         ensures put_off { IsPutOff result → IsBegin request × (S.ending self.old.server ≡ true) × (holds (S.standing self.old.server).events session ≡ false) }
+        ensures ended { (r : TheShortReply) (n : ℕ) → result ≡ answers.Reply (store_replies.Ended r) n
+            → (notice_of self.old.notices.items session.0 ≡ Some r) × (notice_of self.new.notices.items session.0 ≡ None) }
     {
         if self.stopped {
             return Answer::Unasked(UnaskedError::Stopped);
@@ -111,12 +121,12 @@ impl<S: EpochServer> Hosted<S> {
             return match self.drain(alloc, session) {
                 Ok(true) => Answer::Drained,
                 Ok(false) => Answer::Reply(StoreReply::Later, self.commits),
-                Err(fault) => Answer::Unasked(fault),
+                Err(error) => Answer::Unasked(error),
             };
         }
         match self.put(alloc, session, session, request) {
             Ok(reply) => Answer::Reply(StoreReply::Reply(reply), self.commits),
-            Err(fault) => Answer::Unasked(fault),
+            Err(error) => Answer::Unasked(error),
         }
     }
 
@@ -162,6 +172,7 @@ impl<S: EpochServer> Hosted<S> {
     ) -> Result<(), UnaskedError>
         requires other { session.0 ≢ by.0 }
         ensures others { AddsForOthers by.0 self.old.entries.items self.new.entries.items }
+        ensures ended { OnOk result (AddsEnd (first_stage (S.standing self.old.first.value)) by session self.old.entries.items self.new.entries.items) }
         ensures first { self.new.first ≡ self.old.first }
     {
         let reply = self.put(alloc, by, session, Request::End)?;
@@ -179,6 +190,7 @@ impl<S: EpochServer> Hosted<S> {
     ) -> Result<Reply, UnaskedError>
         requires room { HasRoomFor (S.standing self.old.server).events session request }
         ensures adds { AddsResult (first_stage (S.standing self.old.first.value)) by session request result self.old.entries.items self.new.entries.items }
+        ensures halted { IsErrOf result unasked.Stopped → self.old.stopped ≡ true }
         ensures first { self.new.first ≡ self.old.first }
     {
         if self.stopped {
@@ -199,7 +211,7 @@ impl<S: EpochServer> Hosted<S> {
                 });
                 Ok(reply)
             }
-            Err(fault) => Err(fault),
+            Err(error) => Err(error),
         }
     }
 
@@ -235,6 +247,7 @@ impl<S: EpochServer> Hosted<S> {
         ensures grows { GrowsBy LOG_SEAT self.old.entries.items self.new.entries.items }
         ensures taken { taken_of self.new.entries.items ≡ taken_of self.old.entries.items }
         ensures runs { failed ≡ false → self.new.entries.items ≡ self.old.entries.items }
+        ensures stops { failed ≡ true → self.new.stopped ≡ true }
         ensures first { self.new.first ≡ self.old.first }
     {
         if failed {
@@ -245,6 +258,7 @@ impl<S: EpochServer> Hosted<S> {
     /// Keeps that the log has failed. Nothing is asked from then on.
     pub(crate) fn stop(&mut self)
         ensures entries { self.new.entries.items ≡ self.old.entries.items ++ entries.LogFailed ∷ [] }
+        ensures stopped { self.new.stopped ≡ true }
         ensures first { self.new.first ≡ self.old.first }
     {
         self.stopped = true;
@@ -253,23 +267,33 @@ impl<S: EpochServer> Hosted<S> {
 
     /// Keeps how a transaction was ended, if it was, for its session.
     fn keep_notice(&mut self, session: Session, reply: &Reply)
+        ensures kept { (cause : TheCause) → reply.now ≡ replies.Aborted cause → session.0 < length self.old.notices.items
+            → notice_of self.new.notices.items session.0 ≡ Some (shorts.Aborted cause) }
+        ensures others { (n : ℕ) → n ≢ session.0 → notice_of self.new.notices.items n ≡ notice_of self.old.notices.items n }
         ensures same { (self.new.entries ≡ self.old.entries) × (self.new.server ≡ self.old.server) × (self.new.first ≡ self.old.first) × (self.new.commits ≡ self.old.commits) }
     {
-        if let Reply::Aborted(_) = reply {
-            if let Some(notice) = self.notices.get_mut(usize::from(session.0)) {
-                *notice = ShortReply::of(reply);
+        if let Reply::Aborted(cause) = reply {
+            let place = usize::from(session.0);
+            if place < self.notices.len() {
+                self.notices[place] = Some(ShortReply::Aborted(*cause));
             }
         }
     }
 
     /// Takes what is kept for a session.
     fn take_notice(&mut self, session: Session) -> Option<ShortReply>
+        ensures told { result ≡ notice_of self.old.notices.items session.0 }
+        ensures once { notice_of self.new.notices.items session.0 ≡ None }
+        ensures others { (n : ℕ) → n ≢ session.0 → notice_of self.new.notices.items n ≡ notice_of self.old.notices.items n }
         ensures same { (self.new.entries ≡ self.old.entries) × (self.new.server ≡ self.old.server) × (self.new.first ≡ self.old.first) × (self.new.commits ≡ self.old.commits) }
     {
-        match self.notices.get_mut(usize::from(session.0)) {
-            Some(notice) => notice.take(),
-            None => None,
+        let place = usize::from(session.0);
+        if place >= self.notices.len() {
+            return None;
         }
+        let notice = self.notices[place];
+        self.notices[place] = None;
+        notice
     }
 }
 

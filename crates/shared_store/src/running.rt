@@ -40,7 +40,7 @@ pub(crate) struct FailedLog<S: EpochServer> {
     pub(crate) hosted: Hosted<S>,
     pub(crate) log: S::Log,
     pub(crate) total: u64,
-    pub(crate) fault: UnaskedError,
+    pub(crate) error: UnaskedError,
     ghost failed: { S.failed log ≡ true },
     ghost kept: { ∥ IsKept (S.keeps log) (first_stage (S.standing hosted.first.value)) true total hosted.entries.items ∥₁ },
     ghost taken: { taken_of hosted.entries.items ≡ hosted.entries.items },
@@ -66,12 +66,12 @@ impl<S: EpochServer> RunningLog<S> {
                 let written = WrittenLog { hosted, log };
                 Ok(written)
             }
-            Err(fault) => {
+            Err(error) => {
                 let failed = FailedLog {
                     hosted,
                     log,
                     total,
-                    fault,
+                    error,
                 };
                 Err(failed)
             }

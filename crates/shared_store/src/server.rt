@@ -6,20 +6,24 @@ ghost use Rattle.teb_rules.specs.declared.history.Event.{Event};
 ghost use Rattle.teb_rules.specs.history.Phases.{begun_count};
 ghost use Rattle.teb_rules.specs.Setup.{Store};
 ghost use Rattle.commit_laws.specs.Commits.{commit_count};
-ghost use Rattle.shared_store.specs.declared.error.UnaskedError.TheVariants as faults;
+ghost use Rattle.shared_store.specs.declared.error.UnaskedError.TheVariants as unasked;
 ghost use Rattle.shared_store.specs.Beginning.{holds};
-ghost use Rattle.shared_store.specs.Served.{IsBegun, IsDrained, IsObstacle, IsServed, Standing};
+ghost use Rattle.shared_store.specs.Served.{IsBegun, IsObstacle, IsServed, Standing};
+ghost use Rattle.teb_rules.specs.Epochs.{IsDrained};
 
 use crate::error::UnaskedError;
 use std::alloc::Global;
 use teb_rules::names::{Reply, Request, Session};
+use thiserror::Error;
 
 /// What keeps an epoch from its end.
-#[derive(Clone, Copy, Debug, PartialEq, Eq)]
+#[derive(Clone, Copy, Debug, PartialEq, Eq, Error)]
 pub enum Obstacle {
     /// A transaction is unfinished.
+    #[error("a transaction is unfinished")]
     Unfinished,
     /// No transaction is unfinished, but this session holds one that was aborted, and was not told of it.
+    #[error("{0:?} was not told of its abort")]
     Untold(Session),
 }
 
@@ -53,7 +57,7 @@ pub trait EpochServer: Sized {
     /// Answers a request. A commit waits.
     ///
     /// # Errors
-    /// Each leaves the server where it was. After `Full` the epoch is to end.
+    /// `Full` or `OutOfMemory`. Each leaves the server where it was. After `Full` the epoch is to end.
     fn serve(
         &mut self,
         alloc: Global,
@@ -62,7 +66,8 @@ pub trait EpochServer: Sized {
     ) -> Result<Reply, UnaskedError>
         ensures served { IsServed (standing self.old) (standing self.new) session request result }
         ensures waits { (H : List Event) → waits self.old H → waits self.new H }
-        ensures full { IsErrOf result faults.Full → ending self.new ≡ true };
+        ensures full { IsErrOf result unasked.Full → ending self.new ≡ true }
+        ensures runs { IsErrOf result unasked.Stopped → ⊥ };
 
     /// Returns true if no further transaction is to begin in this epoch, as once `MOST_TXNS` have begun.
     fn is_ending(&self) -> bool
@@ -114,5 +119,5 @@ pub trait EpochServer: Sized {
         ensures begun { OnOk result.2 (IsBegun (standing self) (standing result.0) × ∥ waits result.0 [] ∥₁ × ∥ keeps result.1 (standing result.0).store [] 0 ∥₁ × (failed result.1 ≡ false)) }
         ensures same { OnErr result.2 ((standing result.0 ≡ standing self) × ∥ waits result.0 (standing self).events ∥₁ × ∥ keeps result.1 (standing self).store (standing self).events
             (commit_count (standing self).events) ∥₁) }
-        ensures stopped { IsErrOf result.2 faults.Stopped → failed result.1 ≡ true };
+        ensures stopped { IsErrOf result.2 unasked.Stopped → failed result.1 ≡ true };
 }

@@ -1,7 +1,7 @@
 //! One turn of the log's seat at the front.
 
 ghost use Rattle.turn_lock.specs.Seats.{view_of, IsOf, IsOutside};
-ghost use Rattle.shared_store.specs.Gaining.{LogTurn, TakesBatch, TakesNone};
+ghost use Rattle.shared_store.specs.Gaining.{LogTurn, TakesBatch, TakesNone, TellsFailure};
 ghost use Rattle.shared_store.specs.Seated.{IsLogSeat};
 
 use crate::hosted::Hosted;
@@ -42,6 +42,7 @@ pub(crate) fn stop_front<S: EpochServer, R: Wait>(
     ensures seat { IsOf turn.now seat.new × IsOutside seat.new }
     ensures turn { LogTurn (view_of seat.old) (view_of seat.new) }
     ensures none { TakesNone (view_of seat.old) (view_of seat.new) }
+    ensures told { TellsFailure (view_of seat.new).seen }
 {
     let mut hosted = turn.enter(rt, seat);
     hosted.stop();

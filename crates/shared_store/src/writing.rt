@@ -1,6 +1,8 @@
 //! How the log takes what waits at the front, and writes it.
 
-ghost use Rattle.std.specs.Prelude.{◌≡◌};
+ghost use Rattle.std.specs.Prelude.{◌≡◌, ◌+◌, ◌<◌, ◌≤◌, true, false};
+ghost use Rattle.turn_lock.specs.Seats.{view_of};
+ghost use Rattle.shared_store.specs.Gaining.{TellsFailure};
 ghost use Rattle.shared_store.specs.Keeping.{place_of, tells_in, IsLogOf};
 ghost use Rattle.shared_store.specs.Totals.{TellsBy};
 
@@ -32,12 +34,15 @@ impl<S: EpochServer> Keeper<S> {
         requires seat { IsLogOf turn.now self.old }
         ensures place { place_of self.new ≡ place_of self.old }
         ensures tells { TellsBy by.0 (tells_in self.old) (tells_in self.new) }
+        ensures tries { self.old.failed ≡ false → self.old.total < number → 2 ≤ self.old.turns → (view_of self.new.seat).turns < (view_of self.old.seat).turns }
+        ensures front { self.old.failed ≡ false → self.new.failed ≡ true → TellsFailure (view_of self.new.seat).seen }
+        ensures turns { self.old.turns ≤ self.new.turns + 2 }
     {
         if self.failed || number <= self.total || self.turns < 2 {
             return;
         }
         let (batch, commits) = take_batch(rt, alloc, turn, &mut self.seat);
-        if let Err(_fault) = S::write(&mut self.log, alloc, batch) {
+        if let Err(_error) = S::write(&mut self.log, alloc, batch) {
             stop_front(rt, turn, &mut self.seat);
             self.turns -= 2;
             self.failed = true;
@@ -63,6 +68,7 @@ impl<S: EpochServer> Keeper<S> {
         requires seat { IsLogOf turn.now self }
         ensures place { place_of result.0 ≡ place_of self }
         ensures tells { TellsBy by.0 (tells_in self) (tells_in result.0) }
+        ensures turns { self.turns ≤ result.0.turns + 1 }
     {
         if self.failed || self.turns == 0 {
             return (self, Err(UnaskedError::Stopped));

@@ -12,7 +12,6 @@ use Rattle.tree_toml.specs.SetupText.{setup_of_text}
 use Rattle.tree_toml.specs.declared.fault.TreeTextError.{TreeTextError}
 use Rattle.engine_core.specs.EngineModel.{EngineModel}
 use Rattle.tree_switch.specs.Starts.{IsStarted}
-use Rattle.tree_switch.specs.Refusals as refusals
 use Rattle.record_journal.specs.Format.{Record}
 use Rattle.commit_laws.specs.Commits.{commit_count}
 use Rattle.commit_laws.specs.Records.{records_of}
@@ -24,12 +23,10 @@ use Rattle.engine_store.specs.Next.{IsCause, MayFollow}
 use Rattle.engine_store.specs.declared.error.NextError.{NextError}
 use Rattle.engine_store.specs.declared.error.NextError.TheVariants as next
 use Rattle.engine_store.proofs.Halves.{none_since}
-use Rattle.shared_store.specs.Served.{IsBegun, IsDrained}
+use Rattle.shared_store.specs.Served.{IsBegun}
+use Rattle.teb_rules.specs.Epochs.{IsDrained}
 use Rattle.store_server.specs.Standings.{IsOfLog, standing_of}
 use Rattle.store_server.specs.Trees.{IsTreeOf}
-
-pub drained : (H : List Event) → refusals.IsDrained H → IsDrained H
-drained H d = record { finished = d.finished; told = λ s t h g. d.told s record { txn = t; holds = h; gone = g } }
 
 abbrev pub view_or : SetupView → Result SetupView TreeTextError → SetupView
 view_or v (Ok w) = w
@@ -48,18 +45,19 @@ reads_tree text s X names read setup tables named = λ m other. let same : setup
 pub begins_next : (text : List ℕ) (s : Setup) (old new : EngineModel) → IsTreeOf text old.store old.names → setup_of_text text ≡ Ok (setup_view s) → MayFollow old s.names.tables → IsStarted s old new
     → IsBegun (standing_of old) (standing_of new)
 begins_next text s old new t read may i = let same = t (setup_view s) read in record {
-  drained = drained old.events may.drained;
+  drained = may.drained;
   setup = i.setup ∙ sym same.0;
   tables = i.tables ∙ sym same.1;
-  rows = record { ascending = i.rows.ascending; each = i.rows.each };
+  rows = i.rows;
   events = i.events;
 }
 
 -- a log that runs, a drained engine and the same tables leave these causes
-pub is_of_log : (l : Layout) (e : EngineModel) (tables : List (List ℕ)) (why : NextError) → IsCause l e tables why → IsDrained e.events → tables ≡ e.names.tables → (why ≡ next.Stopped → ⊥) → IsOfLog why
+pub is_of_log : (l : Layout) (e : EngineModel) (tables : List (List ℕ)) (why : NextError) → IsCause l e tables why → IsDrained e.events → tables ≡ e.names.tables
+    → (why ≡ next.Stopped → ⊥) → IsOfLog why
 is_of_log l e tables next.Stopped cause d same runs = runs refl
 is_of_log l e tables (next.Again t) cause d same runs = d.finished t.0 cause.0
-is_of_log l e tables (next.Untold s) cause d same runs = let u = cause.1.0 in d.told s.0 u.txn u.holds u.gone
+is_of_log l e tables (next.Untold s) cause d same runs = d.told s.0 cause.1.0
 is_of_log l e tables next.OtherTables cause d same runs = cause.1 same
 is_of_log l e tables next.Full cause d same runs = tt
 is_of_log l e tables next.DiskFault cause d same runs = tt

@@ -4,8 +4,9 @@ ghost use Rattle.std.specs.Prelude.{◌≡◌, ◌↔◌, IsTrue, MatchOption};
 ghost use Rattle.std.specs.List.{list_any};
 ghost use Rattle.teb_rules.specs.history.Live.{live_txns};
 ghost use Rattle.teb_rules.specs.history.Phases.{unfinished};
-ghost use Rattle.tree_switch.specs.Refusals.{AllTold, IsUntold};
-ghost use Rattle.shared_store.specs.Served.{IsDrained, IsObstacle};
+ghost use Rattle.tree_switch.specs.Refusals.{AllTold};
+ghost use Rattle.teb_rules.specs.Epochs.{IsDrained, IsUntold};
+ghost use Rattle.shared_store.specs.Served.{IsObstacle};
 
 use chain_pool::PooledChains;
 use engine_core::Engine;

@@ -1,13 +1,17 @@
 //! What a shared store serves.
 
-ghost use Rattle.std.specs.Prelude.{◌≡◌, IfOk, Ok};
+ghost use Rattle.std.specs.Prelude.{◌≡◌, ◌⊎◌, List, true, false, IfOk, IsErrOf, Ok};
 ghost use Rattle.std.proofs.Props.{props};
+ghost use Rattle.teb_rules.specs.declared.history.Event.{Event};
 ghost use Rattle.teb_rules.specs.history.Phases.{begun_count};
 ghost use Rattle.store_setup.specs.SetupView.{setup_view};
 ghost use Rattle.store_setup.specs.Sound.{HasNames, IsNamed, IsWhole};
 ghost use Rattle.tree_toml.specs.SetupText.{setup_of_text};
+ghost use Rattle.commit_journal.specs.Kept.{IsFull};
 ghost use Rattle.engine_store.specs.Halves.{AreCommitsSince, KeepsCommits};
 ghost use Rattle.engine_store.specs.Label.{label_of};
+ghost use Rattle.shared_store.specs.Served.{IsServed};
+ghost use Rattle.shared_store.specs.declared.error.UnaskedError.TheVariants as unasked;
 ghost use Rattle.store_server.specs.Ending.{is_to_end};
 ghost use Rattle.store_server.specs.Standings.{fault_of_next, fault_of_write, IsOfLog, standing_of};
 ghost use Rattle.store_server.specs.Trees.{IsTreeOf, IsWellNamed};
@@ -48,7 +52,8 @@ impl<D: Renew> StoreServer<D> {
     pub(crate) fn new(queue: EngineQueue<PooledChains>, tree: Vec<u8>) -> StoreServer<D>
         requires under { IsTreeOf tree.items queue.engine.store queue.engine.names }
         requires named { IsWellNamed queue.engine.store queue.engine.names }
-        ensures { result.queue ≡ queue }
+        ensures queue { result.queue ≡ queue }
+        ensures not_full { result.is_full ≡ false }
     {
         StoreServer {
             reserve: queue.left() / LEAST_PART,
@@ -95,12 +100,27 @@ impl<D: Renew> EpochServer for StoreServer<D> {
 
     ghost ending = { λ s. is_to_end s.is_full s.queue.left s.reserve (begun_count s.queue.engine.events) };
 
+    /// Answers a request. A commit waits.
+    ///
+    /// # Errors
+    /// Each leaves the server where it was. `Full` if the bytes that are left may not hold the commit: the epoch is to end then.
     fn serve(
         &mut self,
         alloc: Global,
         session: Session,
         request: Request,
-    ) -> Result<Reply, UnaskedError> {
+    ) -> Result<Reply, UnaskedError>
+        ensures served { IsServed (standing_of self.old.queue.engine) (standing_of self.new.queue.engine) session request result }
+        ensures waits { (H : List Event) → AreCommitsSince self.old.queue.engine.store H self.old.queue.engine.events self.old.queue.waiting
+            → AreCommitsSince self.new.queue.engine.store H self.new.queue.engine.events self.new.queue.waiting }
+        ensures full { IsErrOf result unasked.Full → is_to_end self.new.is_full self.new.queue.left self.new.reserve (begun_count self.new.queue.engine.events) ≡ true }
+
+        // It is full only of a commit that may not fit, and the epoch is to end for want of room only after that.
+        ensures no_room { IsErrOf result unasked.Full → IsFull self.old.queue.engine.events self.old.queue.left session request }
+        ensures not_full { self.new.is_full ≡ true → (self.old.is_full ≡ true) ⊎ IsErrOf result unasked.Full }
+        ensures reserve { self.new.reserve ≡ self.old.reserve }
+        ensures runs { IsErrOf result unasked.Stopped → ⊥ }
+    {
         match self.queue.ask(alloc, session, request) {
             Ok(reply) => Ok(reply),
             Err(AskError::Full) => {

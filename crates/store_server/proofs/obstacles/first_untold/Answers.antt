@@ -1,6 +1,6 @@
 use Rattle.std.proofs.Common.{◌≤◌, List, arith, subst, sym}
 use Rattle.teb_rules.specs.declared.history.Event.{Event}
-use Rattle.tree_switch.specs.Refusals.{IsUntold}
+use Rattle.teb_rules.specs.Epochs.{IsUntold}
 use Rattle.tree_switch.proofs.Refusing.{are_of_sessions}
 use Rattle.store_server.proofs.obstacles.first_untold.Goals as goal
 

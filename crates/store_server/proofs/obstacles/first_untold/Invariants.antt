@@ -1,5 +1,5 @@
 use Rattle.std.proofs.Common.{ℕ, ◌<◌, ◌≤◌}
-use Rattle.tree_switch.specs.Refusals.{IsUntold}
+use Rattle.teb_rules.specs.Epochs.{IsUntold}
 use Rattle.store_server.proofs.obstacles.first_untold.Given as goal
 
 abbrev pub invariant-loop-i : goal.invariant-loop-i

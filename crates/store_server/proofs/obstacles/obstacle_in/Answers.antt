@@ -2,7 +2,6 @@ use Rattle.std.proofs.Common.{List, subst, sym, ◌∙◌, ap}
 use Rattle.teb_rules.specs.declared.history.Event.{Event}
 use Rattle.teb_rules.specs.history.Live.{live_txns}
 use Rattle.shared_store.specs.Served.{HasUnfinished}
-use Rattle.store_server.proofs.Going.{drained}
 use Rattle.store_server.proofs.Unfinished.{all_finished, any_unfinished, some_unfinished}
 use Rattle.store_server.proofs.obstacles.obstacle_in.Goals as goal
 
@@ -14,10 +13,9 @@ returns-then-is_any_unfinished c =
 pub returns-in-Some : goal.returns-in-Some
 returns-in-Some c =
     let none = ap (λ (H : List Event). any_unfinished H (live_txns H)) (sym c.history.ensures.events) ∙ (sym c.is_any_unfinished.ensures ∙ c.if-is_any_unfinished.false) in
-    let u = c.in-Some.ensures in
-    (all_finished c.args.engine.now.events none, record { txn = u.txn; holds = u.holds; gone = u.gone })
+    (all_finished c.args.engine.now.events none, c.in-Some.ensures)
 
 pub returns-in-None : goal.returns-in-None
 returns-in-None c =
     let none = ap (λ (H : List Event). any_unfinished H (live_txns H)) (sym c.history.ensures.events) ∙ (sym c.is_any_unfinished.ensures ∙ c.if-is_any_unfinished.false) in
-    drained c.args.engine.now.events record { finished = all_finished c.args.engine.now.events none; told = c.in-None.ensures }
+    record { finished = all_finished c.args.engine.now.events none; told = c.in-None.ensures }

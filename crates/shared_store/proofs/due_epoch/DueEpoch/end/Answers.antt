@@ -4,7 +4,8 @@ use Rattle.shared_store.specs.declared.entry.LifeEntry.TheVariants.{LogFailed, C
 use Rattle.shared_store.specs.declared.entry.TheConstants.{LOG_SEAT}
 use Rattle.shared_store.specs.Holding.{IsKept}
 use Rattle.shared_store.specs.Lives.{has_stop}
-use Rattle.shared_store.specs.Served.{IsDrained, Standing}
+use Rattle.shared_store.specs.Served.{Standing}
+use Rattle.teb_rules.specs.Epochs.{IsDrained}
 use Rattle.shared_store.specs.Stages.{first_stage}
 use Rattle.shared_store.proofs.Adding.{grows_on, grows_one}
 use Rattle.shared_store.proofs.Living.{stop_taken}
@@ -19,6 +20,7 @@ invariant_of-result g c =
     let new = c.stop.new.self in
     record {
       running = f.failed;
+      told = λ _. c.stop.ensures.stopped;
       kept = kept_still keep (first_stage (g.S.EpochServer.standing new.first.value)) true true f.total mid new.entries.items (stop_taken mid new.entries.items c.stop.ensures.entries) (λ y. y)
           (λ y. absurd (true≢false y))
           (subst (λ x. ∥ IsKept keep (first_stage (g.S.EpochServer.standing x.value)) true f.total mid ∥₁) (sym c.stop.ensures.first) f.kept);
@@ -42,6 +44,7 @@ invariant_of-result-2 g c =
     let new = c.stop_if.new.self in
     record {
       running = sym c.has_failed-failed.ensures;
+      told = c.stop_if.ensures.stops;
       kept = kept_still keep (first_stage (g.S.EpochServer.standing new.first.value)) false c.has_failed-failed.result commits next.hosted.entries.items new.entries.items
           c.stop_if.ensures.taken (λ _. refl) (λ f. ap (λ (l : List LifeEntry). has_stop l) (c.stop_if.ensures.runs f))
           (subst (λ n. ∥ IsKept keep (first_stage (g.S.EpochServer.standing new.first.value)) false n next.hosted.entries.items ∥₁) c.begin_next-hosted.ensures.same.1

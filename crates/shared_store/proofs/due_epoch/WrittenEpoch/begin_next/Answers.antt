@@ -2,7 +2,8 @@ use Rattle.std.proofs.Common.{Err, refl, sym, ap, subst, ◌∙◌}
 use Rattle.shared_store.specs.declared.entry.LifeEntry.TheVariants.{EpochEnded}
 use Rattle.shared_store.specs.declared.error.UnaskedError.{UnaskedError}
 use Rattle.shared_store.specs.Lives.{taken_of}
-use Rattle.shared_store.specs.Served.{IsDrained, Standing}
+use Rattle.shared_store.specs.Served.{Standing}
+use Rattle.teb_rules.specs.Epochs.{IsDrained}
 use Rattle.shared_store.specs.Stages.{first_stage}
 use Rattle.shared_store.proofs.Adding.{no_calls, no_calls_epoch_ended}
 use Rattle.shared_store.proofs.Courses.{taken_all}
@@ -17,7 +18,7 @@ invariant_of-hosted g c =
     let first = first_stage (g.S.EpochServer.standing old.first.value) in
     let x = g.S.EpochServer.standing old.server in
     let y = g.S.EpochServer.standing c.next_epoch-server.result.0 in
-    let b = on_err _ c.next_epoch-server.result.2 c.in-Err.fault c.in-Err.is c.next_epoch-server.ensures.same in
+    let b = on_err _ c.next_epoch-server.result.2 c.in-Err.error c.in-Err.is c.next_epoch-server.ensures.same in
     record {
       life = life_same first x y old.past old.stopped old.commits old.entries.items old.life b.0;
       waiting = waiting_on first x y old.past old.commits old.stopped old.entries.items old.life b.0 c.args.self.written.taken (g.S.EpochServer.waits c.next_epoch-server.result.0) b.1;
@@ -43,7 +44,7 @@ invariant_of-result g c =
     let x = g.S.EpochServer.standing old.server in
     let n = c.next_epoch-server in
     let y = g.S.EpochServer.standing n.result.0 in
-    let b = on_err _ n.result.2 c.in-Err.fault c.in-Err.is n.ensures.same in
+    let b = on_err _ n.result.2 c.in-Err.error c.in-Err.is n.ensures.same in
     record {
       kept = kept_on first x y old.past old.commits old.stopped old.entries.items old.life b.0 c.args.self.written.taken (g.S.EpochServer.keeps n.result.1) c.args.self.written.runs b.2;
       taken = c.args.self.written.taken;
@@ -69,7 +70,7 @@ returns-in-Err-clause-calls g c = no_calls c.args.self.written.hosted.entries.it
 pub returns-in-Err-clause-begun : goal.returns-in-Err-clause-begun
 returns-in-Err-clause-begun g c =
     let n = c.next_epoch-server in
-    let f = c.in-Err.fault in
+    let f = c.in-Err.error in
     let same = (on_err _ n.result.2 f c.in-Err.is n.ensures.same).0 in
     drained_cause (g.S.EpochServer.failed n.result.1) (g.S.EpochServer.standing n.result.0).events f (subst (λ (x : Standing). IsDrained x.events) (sym same) c.args.self.drained)
     (λ e. n.ensures.stopped (c.in-Err.is ∙ ap (λ (x : UnaskedError). Err x) e))

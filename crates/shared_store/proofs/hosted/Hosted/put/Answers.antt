@@ -24,7 +24,7 @@ invariant_of-self-in-Err-1 g c =
     let x = g.S.EpochServer.standing old.server in
     let y = g.S.EpochServer.standing c.serve.new.self in
     record {
-      life = unserved_life first x y old.past old.stopped old.commits old.entries.items old.life c.args.session c.args.request c.serve.result c.serve.ensures.served c.in-Err.fault c.in-Err.is;
+      life = unserved_life first x y old.past old.stopped old.commits old.entries.items old.life c.args.session c.args.request c.serve.result c.serve.ensures.served c.in-Err.error c.in-Err.is;
       waiting = unserved_waiting (g.S.EpochServer.waits old.server) (g.S.EpochServer.waits c.serve.new.self) c.serve.ensures.waits first x y old.past old.stopped old.entries.items old.waiting
-          c.args.session c.args.request c.serve.result c.serve.ensures.served c.in-Err.fault c.in-Err.is;
+          c.args.session c.args.request c.serve.result c.serve.ensures.served c.in-Err.error c.in-Err.is;
     }

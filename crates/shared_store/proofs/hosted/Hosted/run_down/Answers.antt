@@ -37,5 +37,5 @@ returns-clause-more g c =
 pub returns-clause-kept : goal.returns-clause-kept
 returns-clause-kept g c =
     let r = c.write_and_end.result in
-    subst (λ f. IsKeptAfter (g.S.EpochServer.keeps r.log) (first_stage (g.S.EpochServer.standing f.value)) (g.S.EpochServer.failed r.log) c.args.total r.hosted.entries.items) c.end_all-ended.ensures.first
-    c.write_and_end.ensures.kept
+    subst (λ f. IsKeptAfter (g.S.EpochServer.keeps r.log) (first_stage (g.S.EpochServer.standing f.value)) (g.S.EpochServer.failed r.log) c.args.total r.hosted.entries.items)
+    c.end_all-ended.ensures.first c.write_and_end.ensures.kept

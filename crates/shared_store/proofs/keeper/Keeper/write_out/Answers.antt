@@ -21,9 +21,9 @@ invariant_of-self g c =
       outside = c.stop_front.ensures.seat.1;
       seated = log_seat_on_two old.turns (old.turns - 2) v w x enough t.turn c.stop_front.ensures.turn old.seated;
       told = old.told;
-      running = runs_at_err keep then_keep brings old.total c.take_batch-batch.result.1 v w t.turn.base k t.batch (g.S.EpochServer.failed c.write.new.log) c.write.result c.in-Err._fault c.in-Err.is
+      running = runs_at_err keep then_keep brings old.total c.take_batch-batch.result.1 v w t.turn.base k t.batch (g.S.EpochServer.failed c.write.new.log) c.write.result c.in-Err._error c.in-Err.is
           c.write.ensures.not_kept (base_in first_of c.args.turn.now) c.requires.seat.1;
-      kept = kept_at_err keep then_keep brings old.total c.take_batch-batch.result.1 v w t.turn.base k t.batch (g.S.EpochServer.failed c.write.new.log) c.write.result c.in-Err._fault c.in-Err.is
+      kept = kept_at_err keep then_keep brings old.total c.take_batch-batch.result.1 v w t.turn.base k t.batch (g.S.EpochServer.failed c.write.new.log) c.write.result c.in-Err._error c.in-Err.is
           c.write.ensures.not_kept x c.stop_front.ensures.turn.base c.stop_front.ensures.none;
     }
 

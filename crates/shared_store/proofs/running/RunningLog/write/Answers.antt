@@ -44,10 +44,10 @@ invariant_of-failed g c =
     let failed = g.S.EpochServer.failed c.write.new.log in
     let t = c.take-batch.ensures in
     record {
-      failed = runs_err keep then_keep brings first total mid.commits old.entries.items mid.entries.items c.args.self.kept t.brought failed c.write.result c.in-Err.fault c.in-Err.is
+      failed = runs_err keep then_keep brings first total mid.commits old.entries.items mid.entries.items c.args.self.kept t.brought failed c.write.result c.in-Err.error c.in-Err.is
           c.write.ensures.not_kept;
       kept = subst (λ f. ∥ IsKept then_keep (first_stage (g.S.EpochServer.standing f.value)) true total mid.entries.items ∥₁) (sym t.first)
-          (kept_err keep then_keep brings first total mid.commits old.entries.items mid.entries.items c.args.self.kept t.brought failed c.write.result c.in-Err.fault c.in-Err.is
+          (kept_err keep then_keep brings first total mid.commits old.entries.items mid.entries.items c.args.self.kept t.brought failed c.write.result c.in-Err.error c.in-Err.is
           c.write.ensures.not_kept);
       taken = (all_taken (first_stage (g.S.EpochServer.standing mid.first.value)) now old.entries.items mid.entries.items t.entries mid.life.leads).0;
     }

@@ -23,7 +23,7 @@ returns-in-Err-clause-kept g c =
 pub returns-in-Err-clause-checkpoint : goal.returns-in-Err-clause-checkpoint
 returns-in-Err-clause-checkpoint g c =
     let f = c.in-Err.failed in
-    failed_cause (g.S.EpochServer.failed f.log) (g.S.EpochServer.standing f.hosted.server).events f.fault f.failed
+    failed_cause (g.S.EpochServer.failed f.log) (g.S.EpochServer.standing f.hosted.server).events f.error f.failed
 
 pub returns-clause-more : goal.returns-clause-more
 returns-clause-more g c =

@@ -37,5 +37,5 @@ returns-clause-checkpoint g c =
       | in-Ok w ↦ subst (λ o. MatchResult o (λ _. IsCheckpointed keep failed x) (IsReason failed x.events)) (sym w.checkpoint-is)
           (match_ok _ _ n.result.begun w.in-Ok.field-0 w.in-Ok.is n.ensures.begun)
       | in-Err w ↦ subst (λ o. MatchResult o (λ _. IsCheckpointed keep failed x) (IsReason failed x.events)) (sym w.checkpoint-is)
-          (match_err _ _ n.result.begun w.in-Err.fault w.in-Err.is n.ensures.begun)
+          (match_err _ _ n.result.begun w.in-Err.error w.in-Err.is n.ensures.begun)
     ]

@@ -58,5 +58,5 @@ returns-in-Err-Unasked-clause-unasked g c =
     let b = base_of c.args.store.now in
     let t = c.ask_through.ensures in
     λ _ _. unasked b old c.ask_through.new.self t.same.1 t.same.0 c.requires.session.1 2 t.turn
-    (gains_unasked b old.session c.args.request (view_of old.seat) (view_of c.ask_through.new.self.seat) c.ask_through.result c.in-Err-Unasked.fault
+    (gains_unasked b old.session c.args.request (view_of old.seat) (view_of c.ask_through.new.self.seat) c.ask_through.result c.in-Err-Unasked.error
     (c.in-Err-Unasked.is ∙ ap (λ (f : AskError). Err f) c.in-Err-Unasked.field-0-is) t.gains)

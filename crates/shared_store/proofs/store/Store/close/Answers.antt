@@ -9,7 +9,8 @@ use Rattle.shared_store.specs.Hosting.{first_of}
 use Rattle.shared_store.specs.Lives.{owner_of}
 use Rattle.shared_store.specs.Sharing.{base_of}
 use Rattle.shared_store.specs.Stages.{Stage}
-use Rattle.shared_store.proofs.Gathering.{all_in, all_of, all_within, begins, first_ends, front_ghosts, front_seat, goes_on, kept_at_end, kept_to_end, log_ghosts, log_seat, next_of, owned_all, some_left}
+use Rattle.shared_store.proofs.Gathering.{all_in, all_of, all_within, begins, first_ends, front_ghosts, front_seat, goes_on}
+use Rattle.shared_store.proofs.Gathering.{kept_at_end, kept_to_end, log_ghosts, log_seat, next_of, owned_all, some_left}
 use Rattle.shared_store.proofs.store.Store.close.Goals as goal
 
 pub unwrap-requires : goal.unwrap-requires

@@ -12,7 +12,7 @@ returns-in-Ok-open-clause-found g c =
     let read = c.in-Ok in
     let o = c.in-Ok-open.ensures in
     subst (λ (e : EngineModel). IsFound d.seen d.may_leave (d.capacity c.args.disk) c.args.tree.items c.args.disk e)
-    (sym (ap (λ (q : Queue EngineModel). q.engine) c.new-in-Ok-open.ensures ∙ c.split-queue.ensures.engine))
+    (sym (ap (λ (q : Queue EngineModel). q.engine) c.new-in-Ok-open.ensures.queue ∙ c.split-queue.ensures.engine))
     record { view = setup_view read.setup; read = ap setup_of_text (sym c.deref.ensures.value) ∙ read.ensures.setup; events = o.begun.events; rows = o.read; found = o.found }
 
 pub returns-in-Err-open-clause-refused : goal.returns-in-Err-open-clause-refused

@@ -36,7 +36,7 @@ returns-in-Ok-begun-clause-begun g c =
     let may = of_match o.result.2 past _ _ is o.ensures.refused in
     let begun = of_ok o.result.2 past _ is o.ensures.begun in
     subst (λ (q : Queue EngineModel). IsBegun (standing_of old) (standing_of q.engine) × ∥ AreCommitsSince q.engine.store [] q.engine.events q.waiting ∥₁
-    × ∥ KeepsCommits d.seen d.may_leave q.engine.store [] 0 k ∥₁ × (k.stopped ≡ false)) (sym c.new-in-Ok-begun.ensures)
+    × ∥ KeepsCommits d.seen d.may_leave q.engine.store [] 0 k ∥₁ × (k.stopped ≡ false)) (sym c.new-in-Ok-begun.ensures.queue)
     (begins_halves d.seen d.may_leave c.args.self.tree.items c.in-Ok.setup old o.result.0 c.args.log k c.args.self.under (ap setup_of_text (sym c.deref.ensures.value) ∙ c.in-Ok.ensures.read) may
     begun.1 begun.2 c.requires.kept
     (λ n keeps. get_ok o.result.2 past is (o.ensures.kept n keeps)) (get_ok o.result.2 past is o.ensures.running))
