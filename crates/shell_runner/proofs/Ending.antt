@@ -1,5 +1,6 @@
 -- The sessions are ended one after another.
-use Rattle.std.proofs.Common.{◌≡◌, ◌≢◌, ℕ, zero, suc, ◌+◌, ◌<◌, ◌≤◌, Bool, true, false, cond, List, [], ◌∷◌, ◌++◌, filter, map, reverse, Option, Some, None, Result, Ok, Err, IsTrue, is_some, inl, inr, refl, sym, ap, ◌∙◌, subst, arith, append_assoc}
+use Rattle.std.proofs.Common.{◌≡◌, ◌≢◌, ℕ, zero, suc, ◌+◌, ◌<◌, ◌≤◌, Bool, true, false, cond, List, [], ◌∷◌, ◌++◌, filter, map, reverse}
+use Rattle.std.proofs.Common.{Option, Some, None, Result, Ok, Err, IsTrue, is_some, inl, inr, refl, sym, ap, ◌∙◌, subst, arith, append_assoc}
 use Rattle.std.specs.Prelude.{◌⊎◌, IfOk, MatchResult}
 use Rattle.std.proofs.lemmas.Result.{MatchResult-at_err, MatchResult-at_ok}
 use Rattle.teb_rules.specs.history.Written.{held_txn, txn_of}
@@ -22,7 +23,8 @@ use Rattle.shell_lines.specs.declared.reply.StoreReply.{StoreReply}
 use Rattle.shell_runner.specs.States.{HasAsked, IsReached, Stored}
 use Rattle.shell_runner.specs.Answers.{IsAnswered, IsTold, ShowsReply, State}
 use Rattle.shell_runner.specs.Holders.{IsReleased, holders, is_holder}
-use Rattle.shell_runner.specs.Runs.{Answers, EndsAtEnd, EndsIfHeld, GoesOnAfter, HasEnded, HasNone, HasRead, HasStopped, IsEnded, IsGoing, IsRun, IsSafely, Step, StopsAt, asked_by, end_of, said, state_of}
+use Rattle.shell_runner.specs.Runs.{Answers, EndsAtEnd, EndsIfHeld, GoesOnAfter, HasEnded, HasNone, HasRead, HasStopped}
+use Rattle.shell_runner.specs.Runs.{IsEnded, IsGoing, IsRun, IsSafely, Step, StopsAt, asked_by, end_of, said, state_of}
 use Rattle.shell_runner.specs.declared.ended.EndStatus.TheVariants.{Done, Failed}
 use Rattle.shell_runner.specs.declared.ended.RunError.{RunError}
 use Rattle.shell_runner.specs.declared.ended.RunError.TheVariants as errors

@@ -7,7 +7,8 @@ use Rattle.teb_rules.specs.declared.names.naming.NameBook.{NameBook}
 use Rattle.shell_lines.specs.Answers.{reply_line}
 use Rattle.shell_lines.specs.declared.reply.StoreReply.TheVariants.{Later}
 use Rattle.teb_rules.specs.declared.history.Event.{Event}
-use Rattle.shell_runner.specs.States.{IsDrained, IsEpochRefused, IsHindered}
+use Rattle.shell_runner.specs.States.{IsEpochRefused, IsHindered}
+use Rattle.teb_rules.specs.Epochs.{IsDrained}
 use Rattle.shell_runner.specs.declared.store.EpochError.{EpochError}
 use Rattle.shell_runner.specs.declared.store.EpochError.TheVariants as errors
 use Rattle.shell_runner.specs.Answers.{BeginsAtEnd, IsAsked, IsNextEpoch, ShowsReply, State}

@@ -1,5 +1,6 @@
 -- A run goes on by one step, or ends.
-use Rattle.std.proofs.Common.{◌≡◌, ◌≢◌, ℕ, ◌+◌, ◌^◌, ◌≤◌, List, [], ◌∷◌, ◌++◌, length, take, Option, Some, None, Result, Ok, Err, IsTrue, is_some, inl, inr, refl, sym, ap, ◌∙◌, subst, arith, length-append}
+use Rattle.std.proofs.Common.{◌≡◌, ◌≢◌, ℕ, ◌+◌, ◌^◌, ◌≤◌, List, [], ◌∷◌, ◌++◌, length, take, Option, Some, None, Result}
+use Rattle.std.proofs.Common.{Ok, Err, IsTrue, is_some, inl, inr, refl, sym, ap, ◌∙◌, subst, arith, length-append}
 use Rattle.std.specs.Prelude.{◌⊎◌, Bool, true, false, if◌then◌else◌, nat_le, IfErr, IfOk, IfSome, IsErr, IsOk, MatchResult}
 use Rattle.std.proofs.lemmas.Result.{MatchResult-at_err, MatchResult-at_ok}
 use Rattle.std.specs.Io.KnownBytes.{Appends, Consumes, IsAtEnd, Keeps}
@@ -26,7 +27,8 @@ use Rattle.shell_runner.specs.States.{Stored}
 use Rattle.shell_runner.specs.Answers.{IsAnswered, ShowsReply, State, after_read, after_reply}
 use Rattle.shell_runner.specs.Flows.{after_of}
 use Rattle.shell_runner.specs.Holders.{holders}
-use Rattle.shell_runner.specs.Runs.{Answers, AsksNext, GoesOn, GoesOnAfter, HasEnded, HasRead, HasRun, HasStopped, IsRun, IsSafely, IsSameOrSafe, IsTaken, IsUnread, StopsAt, has_bad, said, state_of, Step}
+use Rattle.shell_runner.specs.Runs.{Answers, AsksNext, GoesOn, GoesOnAfter, HasEnded, HasRead, HasRun, HasStopped, IsRun}
+use Rattle.shell_runner.specs.Runs.{IsSafely, IsSameOrSafe, IsTaken, IsUnread, StopsAt, has_bad, said, state_of, Step}
 use Rattle.shell_runner.specs.declared.ended.EndStatus.TheVariants.{Failed}
 use Rattle.shell_runner.specs.declared.ended.RunError.{RunError}
 use Rattle.shell_runner.specs.declared.ended.RunError.TheVariants as errors

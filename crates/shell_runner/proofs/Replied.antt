@@ -11,7 +11,8 @@ use Rattle.shell_lines.specs.declared.reply.StoreReply.{StoreReply}
 use Rattle.shell_lines.specs.declared.reply.StoreReply.TheVariants.{Reply, Later, Full, Unsure}
 use Rattle.shell_lines.specs.Sessions.{noted}
 use Rattle.shell_lines.specs.declared.waits.Waits.{Waits}
-use Rattle.shell_runner.specs.States.{Stored, HasNodeNames, IsDrained, IsNext, IsOfTree, IsReplied}
+use Rattle.shell_runner.specs.States.{Stored, HasNodeNames, IsNext, IsOfTree, IsReplied}
+use Rattle.teb_rules.specs.Epochs.{IsDrained}
 use Rattle.shell_runner.specs.Answers.{IsNextEpoch, IsTold, State, next_number}
 
 pub record SameTree (s t : Stored) : Type 0 where

@@ -7,7 +7,7 @@ use Rattle.teb_rules.specs.declared.names.rows.TheConstants.{MOST_ROWS}
 use Rattle.shell_lines.specs.Answers.{unable_text}
 use Rattle.shell_lines.specs.declared.line.Unable.TheVariants as unable
 use Rattle.tree_writer.specs.Written.{tree_text}
-use Rattle.shell_runner.specs.States.{AreFinalRows}
+use Rattle.teb_rules.specs.Epochs.{AreFinalRows}
 use Rattle.shell_runner.specs.Answers.{IsAnswered, ShowsDump, State}
 use Rattle.shell_lines.specs.declared.line.ShellLine.{ShellLine}
 use Rattle.shell_lines.specs.declared.line.ShellLine.TheVariants.{Dump}

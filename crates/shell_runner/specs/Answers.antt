@@ -1,5 +1,5 @@
 -- How a line is answered.
-use Rattle.std.specs.Prelude.{◌≡◌, ◌⊎◌, ℕ, ◌+◌, ◌-◌, ◌^◌, ◌<◌, ◌≤◌, ℤ, codes, min, nat_le, if◌then◌else◌, List, [], length, map, Option, Some, None, IsTrue}
+use Rattle.std.specs.Prelude.{◌≡◌, ◌⊎◌, ℕ, true, ◌+◌, ◌-◌, ◌^◌, ◌<◌, ◌≤◌, ℤ, codes, min, nat_le, if◌then◌else◌, List, [], length, map, Option, Some, None, IsTrue}
 use Rattle.teb_rules.specs.declared.names.Cell.{Cell}
 use Rattle.teb_rules.specs.declared.names.Session.{Session}
 use Rattle.teb_rules.specs.declared.names.Request.{Request}
@@ -22,7 +22,8 @@ use Rattle.shell_lines.specs.declared.line.ShellLine.{ShellLine}
 use Rattle.shell_lines.specs.declared.line.ShellLine.TheVariants as line
 use Rattle.shell_lines.specs.declared.reply.StoreReply.{StoreReply}
 use Rattle.shell_lines.specs.declared.reply.StoreReply.TheVariants as reply
-use Rattle.shell_runner.specs.States.{Stored, AreFinalRows, IsDrained, IsHindered, IsReplied, IsUntold}
+use Rattle.shell_runner.specs.States.{Stored, IsHindered, IsReplied}
+use Rattle.teb_rules.specs.Epochs.{AreFinalRows, IsDrained, IsUntold}
 use Rattle.shell_runner.specs.declared.requests.TheConstants.{LEAST_LEFT}
 use Rattle.teb_rules.specs.declared.names.TheConstants.{MOST_TXNS}
 use Rattle.teb_rules.specs.history.Phases.{begun_count, held, unfinished}
@@ -75,10 +76,11 @@ abbrev pub after_reply : StoreReply → After
 after_reply reply.Unsure = Stopped
 after_reply _ = Next
 
--- the disk failed, and nothing is shown
-pub record HasFailed (text : List ℕ) (after : After) : Type 0 where
+-- the disk failed, so that the store has stopped, and nothing is shown
+pub record HasFailed (text : List ℕ) (after : After) (t : State) : Type 0 where
   pub silent : text ≡ []
   pub stopped : after ≡ Stopped
+  pub halted : t.stored.stopped ≡ true
 
 -- a session is told what becomes of its request
 pub record ShowsReply (s : State) (session : Session) (request : Request) (text : List ℕ) (after : After) (t : State) : Type 0 where
@@ -109,20 +111,20 @@ pub record AsksAtEnd (s : State) (session : Session) (request : Request) (text :
   pub replied : ShowsReply mid session request text after t
 
 -- the disk failed as the next epoch was to begin
-pub record FailsAtEnd (s : State) (session : Session) (request : Request) (text : List ℕ) (after : After) : Type 0 where
+pub record FailsAtEnd (s : State) (session : Session) (request : Request) (text : List ℕ) (after : After) (t : State) : Type 0 where
   pub at_end : BeginsAtEnd s.stored session request
   pub drained : IsDrained s.stored.events
-  pub failed : HasFailed text after
+  pub failed : HasFailed text after t
 
 abbrev pub IsAsked : State → Session → Request → List ℕ → After → State → Type 0
 IsAsked s session request text after t =
-    AsksNow s session request text after t ⊎ (TellsLater s session request text after t ⊎ (AsksAtEnd s session request text after t ⊎ FailsAtEnd s session request text after))
+    AsksNow s session request text after t ⊎ (TellsLater s session request text after t ⊎ (AsksAtEnd s session request text after t ⊎ FailsAtEnd s session request text after t))
 
 -- what becomes of a checkpoint
 abbrev pub IsCheckpointed : State → Checkpoint → State → Type 0
 IsCheckpointed s (checkpoint.Begun n) t = IsNextEpoch s t × (n ≡ t.epoch)
 IsCheckpointed s (checkpoint.Unfinished u) t = (t ≡ s) × IsTrue (unfinished s.stored.events u.0)
-IsCheckpointed s (checkpoint.Untold u) t = (t ≡ s) × IsUntold s.stored.events u
+IsCheckpointed s (checkpoint.Untold u) t = (t ≡ s) × IsUntold s.stored.events u.0
 IsCheckpointed s checkpoint.Full t = (t ≡ s) × IsDrained s.stored.events
 
 pub record IsCheckpoint (s : State) (text : List ℕ) (after : After) (t : State) : Type 0 where
@@ -195,5 +197,5 @@ IsUnchanging _ = Unit {0}
 -- line n of the input is answered by this text, and leaves this state
 abbrev pub IsAnswered : ℕ → State → ShellLine → List ℕ → After → State → Type 0
 IsAnswered n s (line.Ask session request) text after t = IsAsked s session request text after t
-IsAnswered n s line.Checkpoint text after t = IsCheckpoint s text after t ⊎ (IsDrained s.stored.events × HasFailed text after)
+IsAnswered n s line.Checkpoint text after t = IsCheckpoint s text after t ⊎ (IsDrained s.stored.events × HasFailed text after t)
 IsAnswered n s l text after t = Shows n s l text after × (t ≡ s)

@@ -1,18 +1,16 @@
 -- What the shell sees of its store, and how it goes on.
-use Rattle.std.specs.Prelude.{◌≡◌, ◌≢◌, ◌⊎◌, ℕ, ◌+◌, ◌*◌, ◌<◌, ℤ, Bool, false, List, [], Some, Ok, IsTrue, length}
-use Rattle.teb_rules.specs.declared.names.Cell.{Cell}
+use Rattle.std.specs.Prelude.{◌≡◌, ◌≢◌, ◌⊎◌, ℕ, ◌+◌, ◌*◌, ◌<◌, Bool, false, List, [], Some, Ok, IsTrue, length}
 use Rattle.teb_rules.specs.declared.names.Session.{Session}
 use Rattle.teb_rules.specs.declared.names.Txn.{Txn}
 use Rattle.teb_rules.specs.declared.names.Request.{Request}
 use Rattle.teb_rules.specs.declared.names.Request.TheVariants.{Commit}
 use Rattle.teb_rules.specs.declared.names.Reply.TheVariants.{Committed}
 use Rattle.teb_rules.specs.declared.names.naming.NameBook.{NameBook}
-use Rattle.teb_rules.specs.names.Rows.{row_of, IsAscending}
 use Rattle.teb_rules.specs.declared.history.Event.{Event}
-use Rattle.teb_rules.specs.history.Phases.{aborted, held, unfinished}
+use Rattle.teb_rules.specs.history.Phases.{held, unfinished}
 use Rattle.teb_rules.specs.Setup.{Store}
 use Rattle.teb_rules.specs.Answer.{answer}
-use Rattle.teb_rules.specs.Serializes.{final_table}
+use Rattle.teb_rules.specs.Epochs.{AreFinalRows, IsDrained, IsUntold}
 use Rattle.teb_rules.specs.Accepted.{IsSound}
 use Rattle.teb_rules.specs.laws.Laws.{reached}
 use Rattle.commit_laws.specs.Records.{puts_of}
@@ -34,11 +32,6 @@ pub record Stored : Type 0 where
   pub commits : ℕ
   pub left : ℕ
   pub stopped : Bool
-
--- the rows, in ascending order of cells, are those of the final table
-pub record AreFinalRows (X : Store) (H : List Event) (rows : List (Cell × ℤ)) : Type 0 where
-  pub ascending : IsAscending rows
-  pub each : (x : Cell) → row_of rows x ≡ final_table X H x
 
 -- each node has a name
 abbrev pub HasNodeNames : Stored → Type 0
@@ -95,25 +88,14 @@ pub record IsNext (m : SetupView) (s t : Stored) : Type 0 where
   pub events : t.events ≡ []
   pub commits : t.commits ≡ 0
 
--- session s holds an aborted transaction
-pub record IsUntold (H : List Event) (s : Session) : Type 0 where
-  pub txn : ℕ
-  pub holds : held H s.0 ≡ Some txn
-  pub gone : IsTrue (aborted H txn)
-
 -- who keeps the next epoch from beginning: a transaction that is unfinished, or a session that holds an aborted one
 abbrev pub IsHindered : List Event → Type 0
-IsHindered H = ((t : Txn) × IsTrue (unfinished H t.0)) ⊎ ((s : Session) × IsUntold H s)
-
--- nobody does
-pub record IsDrained (H : List Event) : Type 0 where
-  pub finished : (t : ℕ) → ¬ IsTrue (unfinished H t)
-  pub told : (s : Session) → ¬ IsUntold H s
+IsHindered H = ((t : Txn) × IsTrue (unfinished H t.0)) ⊎ ((s : Session) × IsUntold H s.0)
 
 -- what keeps the next epoch from beginning is so
 abbrev pub IsEpochRefused : List Event → EpochError → Type 0
 IsEpochRefused H (errors.Unfinished t) = IsTrue (unfinished H t.0)
-IsEpochRefused H (errors.Untold s) = IsUntold H s
+IsEpochRefused H (errors.Untold s) = IsUntold H s.0
 IsEpochRefused H errors.Full = IsDrained H
 IsEpochRefused H errors.DiskFault = IsDrained H
 IsEpochRefused H errors.OutOfMemory = Unit {0}

@@ -1,12 +1,13 @@
 //! The lines that change the store.
 
-ghost use Rattle.std.specs.Prelude.{◌≡◌, ◌↔◌, [], IfErr, IfOk, OnErr, OnOk, Ok, ◌⊎◌, IsTrue};
+ghost use Rattle.std.specs.Prelude.{◌≡◌, ◌↔◌, [], true, IfErr, IfOk, OnErr, OnOk, Ok, ◌⊎◌, IsTrue};
 ghost use Rattle.store_setup.specs.SetupView.{SetupView, setup_view};
 ghost use Rattle.store_setup.specs.Sound.{IsNamed, IsWhole};
 ghost use Rattle.tree_toml.specs.SetupText.{setup_of_text};
 ghost use Rattle.shell_lines.specs.Answers.{reply_line};
 ghost use Rattle.shell_lines.specs.declared.reply.StoreReply.TheVariants as replies;
-ghost use Rattle.shell_runner.specs.States.{IsDrained, IsEpochRefused, IsReady};
+ghost use Rattle.shell_runner.specs.States.{IsEpochRefused, IsReady};
+ghost use Rattle.teb_rules.specs.Epochs.{IsDrained};
 ghost use Rattle.shell_runner.specs.Answers.{BeginsAtEnd, HasFailed, HasToEnd, IsAsked, IsCheckpoint, IsNextEpoch, ShowsReply, after_reply};
 ghost use Rattle.shell_runner.specs.Runs.{IsSafely, IsSameOrSafe, state_of};
 ghost use Rattle.shell_runner.specs.declared.step.After.TheVariants as afters;
@@ -145,7 +146,7 @@ pub(crate) fn checkpoint<T: ShellStore>(
     requires ready { IsReady tree.now (T.stored shell.store) }
     requires blank { out.old.items ≡ [] }
     ensures checked { IfOk result.1 (λ after. IsCheckpoint (state_of T.stored shell) out.new.items after (state_of T.stored result.0)
-        ⊎ (IsDrained (T.stored shell.store).events × HasFailed out.new.items after)) }
+        ⊎ (IsDrained (T.stored shell.store).events × HasFailed out.new.items after (state_of T.stored result.0))) }
     ensures ready { IfOk result.1 (λ after. (after ≡ afters.Stopped → ⊥) → IsReady tree.now (T.stored result.0.store)) }
     ensures safe { IsSafely T.safe shell result.0 }
     ensures format { result.0.format ≡ shell.format }
@@ -176,6 +177,7 @@ fn begin_next_epoch<T: ShellStore>(
     ensures begun { OnOk result.1 (IsNextEpoch (state_of T.stored shell) (state_of T.stored result.0)) }
     ensures ready { OnOk result.1 (IsReady tree.now (T.stored result.0.store)) }
     ensures refused { IfErr result.1 (IsEpochRefused (T.stored shell.store).events) }
+    ensures halted { IfErr result.1 (λ why. why ≡ errors.DiskFault → (T.stored result.0.store).stopped ≡ true) }
     ensures kept { IfErr result.1 (λ why. (why ≡ errors.DiskFault → ⊥) → result.0 ≡ shell) }
     ensures safe { IsSameOrSafe T.safe shell result.0 }
     ensures format { result.0.format ≡ shell.format }

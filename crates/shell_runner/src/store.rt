@@ -1,13 +1,14 @@
 //! What the shell asks of its store.
 
-ghost use Rattle.std.specs.Prelude.{◌≡◌, All, IfErr, IfOk, OnErr, OnOk, false, length, map, reverse};
+ghost use Rattle.std.specs.Prelude.{◌≡◌, All, IfErr, IfOk, OnErr, OnOk, false, true, length, map, reverse};
 ghost use Rattle.teb_rules.specs.Ranks.{serial_order};
 ghost use Rattle.script_text.specs.Named.{EventNamed, RowsNamed};
 ghost use Rattle.shell_lines.specs.Answers.{StoreReplyNamed};
 ghost use Rattle.shell_lines.specs.declared.reply.StoreReply.TheVariants as replies;
 ghost use Rattle.store_setup.specs.SetupView.{setup_view};
 ghost use Rattle.store_setup.specs.Sound.{IsWhole};
-ghost use Rattle.shell_runner.specs.States.{AreFinalRows, HasNodeNames, IsDrained, IsEpochRefused, IsNext, IsReached, IsReplied, Stored};
+ghost use Rattle.shell_runner.specs.States.{HasNodeNames, IsEpochRefused, IsNext, IsReached, IsReplied, Stored};
+ghost use Rattle.teb_rules.specs.Epochs.{AreFinalRows, IsDrained};
 ghost use Rattle.shell_runner.specs.declared.store.EpochError.TheVariants as errors;
 
 use shell_lines::StoreReply;
@@ -100,7 +101,7 @@ pub trait ShellStore: Drop {
     /// again.
     ///
     /// # Errors
-    /// With each the store is as it was, except for `DiskFault`.
+    /// With each the store is as it was, except for `DiskFault`, after which it is stopped.
     fn next_epoch(self, alloc: Global, setup: Setup) -> (Self, Result<(), EpochError>)
         requires running { (Self.stored self).stopped ≡ false }
         requires whole { IsWhole (setup_view setup) }
@@ -109,6 +110,7 @@ pub trait ShellStore: Drop {
         ensures drained { OnOk result.1 (IsDrained (Self.stored self).events) }
         ensures running { OnOk result.1 ((Self.stored result.0).stopped ≡ false) }
         ensures refused { IfErr result.1 (IsEpochRefused (Self.stored self).events) }
+        ensures halted { IfErr result.1 (λ why. why ≡ errors.DiskFault → (Self.stored result.0).stopped ≡ true) }
         ensures kept { IfErr result.1 (λ why. (why ≡ errors.DiskFault → ⊥) → result.0 ≡ self) }
         ensures safe { Self.safe self result.0 };
 }

@@ -25,7 +25,7 @@ use Rattle.store_setup.specs.Sound.{IsWhole}
 use Rattle.store_setup.specs.Stores.{store_of}
 use Rattle.script_text.specs.Named.{CauseNamed, CellNamed, EventNamed, NodeNamed, ReplyNamed, RowsNamed}
 use Rattle.engine_core.specs.EngineModel.{EngineModel, IsOfEngine}
-use Rattle.serial_order.specs.Tables.{IsFinalRows}
+use Rattle.teb_rules.specs.Epochs.{AreFinalRows}
 use Rattle.serial_order.proofs.Within.{row_within, rows_within}
 
 -- every node and every table has a name
@@ -69,7 +69,7 @@ pub same_tables : (e : EngineModel) (s : Setup) → store_of s ≡ e.store → s
 same_tables e s store names = sym (ap (λ (X : Store). X.tables) store) ∙ ap (λ (n : NameBook). length n.tables) names
 
 -- the tables of the final rows have names
-pub final_named : (e : EngineModel) (s : Setup) (rows : List (Cell × ℤ)) → store_of s ≡ e.store → s.names ≡ e.names → IsWhole (setup_view s) → IsOfEngine e → IsFinalRows e.store e.events rows
+pub final_named : (e : EngineModel) (s : Setup) (rows : List (Cell × ℤ)) → store_of s ≡ e.store → s.names ≡ e.names → IsWhole (setup_view s) → IsOfEngine e → AreFinalRows e.store e.events rows
     → RowsNamed e.names rows
 final_named e s rows store names whole of final =
     let starts : (x : Cell) (v : ℤ) → row_of e.store.rows x ≡ Some v → CellWithin e.store x =

@@ -1,6 +1,6 @@
 //! The shell over a disk.
 
-ghost use Rattle.std.specs.Prelude.{◌≡◌, ◌≢◌, IfErr, IfOk, List, Ok, OnErr, ℕ};
+ghost use Rattle.std.specs.Prelude.{◌≡◌, ◌≢◌, IfErr, IfOk, Ok, OnErr};
 ghost use Rattle.teb_io.specs.Faults.{Rose};
 ghost use Rattle.store_setup.specs.SetupView.{setup_view};
 ghost use Rattle.store_setup.specs.Sound.{IsNamed, IsWhole};
@@ -8,7 +8,7 @@ ghost use Rattle.tree_toml.specs.SetupText.{setup_of_text};
 ghost use Rattle.shell_runner.specs.declared.ended.EndStatus.TheVariants as statuses;
 ghost use Rattle.shell_runner.specs.declared.ended.RunError.TheVariants as errors;
 ghost use Rattle.tebaldi_shell.specs.Serving.{HasOpened, HasServed};
-ghost use Rattle.tebaldi_shell.specs.Starts.{IsRefusedTree};
+ghost use Rattle.tebaldi_shell.specs.Starts.{IsRefusedStart, start_of};
 
 use crate::kept_store::KeptStore;
 use chain_pool::PooledChains;
@@ -41,7 +41,8 @@ pub enum StartError {
 /// Opens the store of a disk under a tree text, and runs the shell on it.
 ///
 /// # Errors
-/// `BadTree` if the text is none of a tree, before the disk is looked at; else why the store can't be opened.
+/// `BadTree` if the text is none of a tree, before the disk is looked at; else why the store can't be opened: what the disk has, a call of it
+/// that fails, or memory.
 pub fn serve<D: Renew + Drop, H: Host, S: Source, K: Sink>(
     alloc: Global,
     disk: D,
@@ -57,7 +58,7 @@ pub fn serve<D: Renew + Drop, H: Host, S: Source, K: Sink>(
     ensures read_fault { IfOk result (λ ended. ended.status ≡ statuses.Failed errors.ReadFault → Rose (S.faults input.old) (S.faults input.new)) }
     ensures no_read_fault { IfOk result (λ ended. ended.status ≢ statuses.Failed errors.ReadFault → S.faults input.new ≡ S.faults input.old) }
     ensures write_fault { IfOk result (λ ended. ended.status ≡ statuses.Failed errors.WriteFault → Rose (K.faults out.old) (K.faults out.new)) }
-    ensures refused { IfErr result (IsRefusedTree tree.now) }
+    ensures refused { IfErr result (IsRefusedStart D.seen D.may_leave D.faults D.moment D.left_since D.capacity tree.now disk) }
     ensures unread { OnErr result ((S.faults input.new ≡ S.faults input.old) × (S.left input.new ≡ S.left input.old) × (K.written out.new ≡ K.written out.old)) }
 {
     let setup = match read_tree(alloc, tree) {
@@ -83,7 +84,7 @@ fn opened<D: Renew + Drop>(
     requires whole { IsWhole (setup_view setup) }
     requires named { IsNamed (setup_view setup) }
     ensures opened { IfOk result (HasOpened D.seen D.may_leave D.faults D.moment D.left_since (D.capacity disk) tree.now disk (setup_view setup)) }
-    ensures refused { IfErr result (IsRefusedTree tree.now) }
+    ensures refused { IfErr result (IsRefusedStart D.seen D.may_leave D.faults D.moment D.left_since D.capacity tree.now disk) }
 {
     match EngineStore::open(alloc, disk, setup, PooledChains::new(alloc)) {
         Ok(store) => Ok(KeptStore::new(store)),
@@ -92,7 +93,7 @@ fn opened<D: Renew + Drop>(
 }
 
 fn start_error(why: OpenError) -> StartError
-    ensures { (tree : List ℕ) → IsRefusedTree tree result }
+    ensures { result ≡ start_of why }
 {
     match why {
         OpenError::Full => StartError::Full,

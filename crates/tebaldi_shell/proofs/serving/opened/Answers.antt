@@ -3,6 +3,7 @@ use Rattle.store_setup.specs.SetupView.{setup_view}
 use Rattle.tebaldi_shell.specs.Kept.{KeptModel}
 use Rattle.tebaldi_shell.specs.Serving.{HasOpened}
 use Rattle.tebaldi_shell.proofs.Opened.{opens}
+use Rattle.tebaldi_shell.proofs.Refused.{refused_start}
 use Rattle.tebaldi_shell.proofs.serving.opened.Goals as goal
 
 pub returns-in-Ok-clause-opened : goal.returns-in-Ok-clause-opened
@@ -14,4 +15,8 @@ returns-in-Ok-clause-opened g c =
     c.in-Ok.ensures.found c.in-Ok.ensures.any_moment)
 
 pub returns-in-Err-clause-refused : goal.returns-in-Err-clause-refused
-returns-in-Err-clause-refused g c = c.start_error.ensures c.args.tree.now
+returns-in-Err-clause-refused g c =
+    let d = g.D.Disk in
+    let back = c.in-Err.back in
+    refused_start d.seen d.may_leave d.faults d.moment d.left_since d.capacity c.args.tree.now c.args.disk (setup_view c.args.setup) c.requires.read back.disk back.why c.start_error.result
+    c.in-Err.ensures.refused c.start_error.ensures
