@@ -5,7 +5,7 @@
 
 Each client has a thread, and makes transfers between accounts: it counts the transfer, and adds to two accounts, in a transaction that is on the disk before it
 is answered. SQLite has a write-ahead log and synchronous=FULL, RocksDB pessimistic transactions and a synced write (bench_threads.cpp). For each number of
-clients there are so many transfers that a run takes at least N seconds. The stores take turns, round after round, since the speed of a disk changes; of the rounds the median is told. The calls of fsync and
+clients the number of transfers is such that a run takes at least N seconds. The stores take turns, round after round, since the speed of a disk changes; the median of the rounds is printed. The calls of fsync and
 fdatasync are counted by strace in another run. It needs g++, strace and the packages libsqlite3-dev and librocksdb-dev; what is missing is left out.
 """
 import argparse

@@ -10,9 +10,9 @@ use crash_disk::MemDisk;
 use durable_server::{DurableServer, EngineStoreServer};
 use engine_core::Engine;
 use engine_store::EngineStore;
-use hall_server::Server;
+use hall_server::{Server, UnaskedError};
 use serial_order::tables;
-use session_server::{HallOf, PassOf};
+use session_server::{HallOf, PassOf, ServeError};
 use std::alloc::Global;
 use std::process::Abort;
 use std::sync::Wait;
@@ -38,6 +38,15 @@ const STOP: u32 = 301;
 /// How many bytes the disk of a store in epochs can hold.
 const CAPACITY: u64 = 65_536;
 
+/// What all sessions together were told.
+#[derive(Drop)]
+struct Told {
+    /// How many commits were answered.
+    commits: AtomicI64,
+    /// How many sessions were told that the disk has failed, once a commit of theirs was not answered.
+    stops: AtomicI64,
+}
+
 /// Makes a transaction that writes a row, and returns true if its commit is answered.
 fn commits<S: Server, R: Wait>(
     rt: &R,
@@ -55,13 +64,8 @@ fn commits<S: Server, R: Wait>(
 }
 
 /// Makes the transactions of a session, up to the first whose commit is not answered, and counts those that are. Each writes its number
-/// to the row of the session.
-fn run_session<S: Server, R: Wait>(
-    rt: &R,
-    hall: &HallOf<S>,
-    pass: &mut PassOf<S>,
-    answered: &AtomicI64,
-)
+/// to the row of the session. After a commit that is not answered it asks once more, and counts whether the disk is told to have failed.
+fn run_session<S: Server, R: Wait>(rt: &R, hall: &HallOf<S>, pass: &mut PassOf<S>, told: &Told)
     requires { IsPassOf hall.now pass.old }
     ensures { IsPassOf hall.now pass.new × (pass.new.session ≡ pass.old.session) }
 {
@@ -71,9 +75,13 @@ fn run_session<S: Server, R: Wait>(
     };
     for number in 1..=COMMITS {
         if !commits(rt, hall, pass, row, number) {
+            let behind = hall.serve(rt, pass, Request::End);
+            if behind == Err(ServeError::Unasked(UnaskedError::Stopped)) {
+                told.stops.fetch_add(1, SeqCst);
+            }
             return;
         }
-        answered.fetch_add(1, SeqCst);
+        told.commits.fetch_add(1, SeqCst);
     }
 }
 
@@ -82,7 +90,7 @@ fn run_sessions<S: Server + Send, R: Threads + Wait + Sync>(
     rt: &R,
     hall: &HallOf<S>,
     passes: &mut [PassOf<S>],
-    answered: &AtomicI64,
+    told: &Told,
 )
     requires { All (IsPassOf hall.now) passes.old }
     ensures { (i : ℕ) (d : _) → i < length passes.old → IsPassOf hall.now (slice_index_or passes.new i d) × ((slice_index_or passes.new i d).session ≡ (slice_index_or passes.old i d).session) }
@@ -91,25 +99,28 @@ fn run_sessions<S: Server + Send, R: Threads + Wait + Sync>(
         rt,
         passes,
         THREADS,
-        &|_, pass| run_session(rt, hall, pass, answered),
+        &|_, pass| run_session(rt, hall, pass, told),
     );
 }
 
-/// Shares a server that was asked nothing yet among the sessions. Returns it, and how many commits were answered.
+/// Shares a server that was asked nothing yet among the sessions. Returns it, and what the sessions were told.
 fn share<S: Server + Send + Drop, R: Threads + Wait + Abort + Sync>(
     rt: &R,
     alloc: Global,
     server: S,
-) -> (S, i64)
+) -> (S, Told)
     requires { S.events server ≡ [] }
 {
-    let answered = AtomicI64::new(0);
+    let told = Told {
+        commits: AtomicI64::new(0),
+        stops: AtomicI64::new(0),
+    };
     let Ok((hall, mut passes)) = HallOf::begin(alloc, server) else {
         panic!(rt; "memory");
     };
-    run_sessions(rt, &hall, &mut passes, &answered);
+    run_sessions(rt, &hall, &mut passes, &told);
     let (server, _entries) = hall.end(passes);
-    (server, answered.load(SeqCst))
+    (server, told)
 }
 
 /// Returns how many commits rows are of, if each session has one row, which counts its commits.
@@ -122,7 +133,11 @@ fn count_of(rows: &[(Cell, i64)]) -> i64 {
 }
 
 /// Fails unless each commit that was answered is kept: all of them on a disk that does not fail, else some, and at most one more is kept.
-fn expect_kept<R: Abort>(rt: &R, stop: u32, answered: i64, kept: i64) {
+/// A session is told that the disk has failed if and only if it has.
+fn expect_kept<R: Abort>(rt: &R, stop: u32, told: &Told, kept: i64) {
+    let answered = told.commits.load(SeqCst);
+    let stops = told.stops.load(SeqCst);
+    assert!(rt; (0 < stops) == (stop != 0), "{stops} stops");
     assert!(rt;
         answered <= kept && kept <= answered.saturating_add(1),
         "{kept} of {answered}"
@@ -141,12 +156,12 @@ fn a_journal_has_each_commit_that_threads_were_answered(rt: HostRuntime) -> Resu
         let Ok(durable) = Durable::create(engine, MemDisk::new(alloc, stop)?) else {
             return Err(Fail::from("no journal"));
         };
-        let (server, answered) = share(&rt, alloc, DurableServer { durable });
+        let (server, told) = share(&rt, alloc, DurableServer { durable });
         let mut left = server.durable.into_disk().left();
         let Ok(found) = recover(alloc, &mut left, &Rows::new(alloc)) else {
             return Err(Fail::from("not recovered"));
         };
-        expect_kept(&rt, stop, answered, count_of(&found.rows));
+        expect_kept(&rt, stop, &told, count_of(&found.rows));
     }
     Ok(())
 }
@@ -167,10 +182,10 @@ fn a_store_has_each_commit_that_threads_were_answered(rt: HostRuntime) -> Result
     let alloc = rt.alloc();
     for stop in [0, STOP] {
         let store = open(alloc, MemDisk::with_capacity(alloc, CAPACITY, stop))?;
-        let (server, answered) = share(&rt, alloc, EngineStoreServer { store });
+        let (server, told) = share(&rt, alloc, EngineStoreServer { store });
         let found = open(alloc, server.store.into_disk().left())?;
         let rows = tables(alloc, found.engine())?;
-        expect_kept(&rt, stop, answered, count_of(&rows));
+        expect_kept(&rt, stop, &told, count_of(&rows));
     }
     Ok(())
 }

@@ -1,5 +1,6 @@
 -- The place of a session among the sessions that have a script.
-use Rattle.std.proofs.Common.{◌≡◌, ◌≢◌, ℕ, zero, suc, ◌+◌, ◌<◌, Bool, true, false, if◌then◌else◌, List, [], ◌∷◌, length, Option, Some, None, IfSome, option_map, unwrap_or, eqb, eq-eqb, ne_eqb, eqb-true, refl, sym, ◌∙◌, ap, arith}
+use Rattle.std.proofs.Common.{◌≡◌, ◌≢◌, ℕ, zero, suc, ◌+◌, ◌<◌, Bool, true, false, if◌then◌else◌, List, [], ◌∷◌, length, Option}
+use Rattle.std.proofs.Common.{Some, None, IfSome, option_map, unwrap_or, eqb, eq-eqb, ne_eqb, eqb-true, refl, sym, ◌∙◌, ap, arith}
 use Rattle.std.specs.List.{slice_get}
 use Rattle.teb_rules.specs.declared.names.Session.{Session}
 use Rattle.script_text.specs.declared.Line.{Line}

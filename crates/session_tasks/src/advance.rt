@@ -1,9 +1,9 @@
 //! How a session is begun, and how it goes on.
 
-ghost use Rattle.std.specs.Prelude.{◌≡◌, true};
+ghost use Rattle.std.specs.Prelude.{◌≡◌, ◌≢◌, true};
 ghost use Rattle.std.specs.Option.{IsSome};
 ghost use Rattle.session_server.specs.Passes.{IsNew};
-ghost use Rattle.session_tasks.specs.Stops.{FoundRaised};
+ghost use Rattle.session_tasks.specs.Stops.{FoundRaised, FoundClear};
 ghost use Rattle.session_tasks.specs.Tasks.{IsTask, progress_at, progress_after};
 ghost use Rattle.session_tasks.specs.declared.task.Progress.TheVariants.{Open, Through};
 
@@ -36,13 +36,15 @@ impl<C: Chains, G: Gate> Run<'_, C, G> {
         }
     }
 
-    /// Serves a session from its present line, unless it is done. It stays open only if there is a stop word.
+    /// Serves a session from its present line, if it is open; else nothing changes. It stays open only if there is a stop word.
     pub fn advance<S: Rule, R: Wait>(&self, rt: &R, task: &mut Task<C>, stop: Option<&AtomicIn<S>>)
         requires { IsTask self.now.hall.now self.now.scripts.now task.old }
         ensures task { IsTask self.now.hall.now self.now.scripts.now task.new }
         ensures session { task.new.pass.session ≡ task.old.pass.session }
         ensures stopped { task.new.progress ≡ Open → IsSome stop.entry }
         ensures found { task.new.progress ≡ Open → FoundRaised S.invariant }
+        ensures looked { IsSome stop.entry → task.new.pass.asks ≢ task.old.pass.asks → FoundClear S.invariant }
+        ensures done { task.old.progress ≢ Open → task.new ≡ task.old }
     {
         if task.progress != Progress::Open {
             return;
@@ -67,6 +69,7 @@ impl<C: Chains, G: Gate> Run<'_, C, G> {
         ensures task { IsTask self.now.hall.now self.now.scripts.now task.new }
         ensures session { task.new.pass.session ≡ task.old.pass.session }
         ensures through { result ≡ true → task.new.progress ≡ Through }
+        ensures goes_on { task.new.progress ≡ Through → result ≡ true }
     {
         self.advance(rt, task, Some(stop));
         match task.progress {

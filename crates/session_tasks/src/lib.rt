@@ -24,8 +24,9 @@
 //!
 //! **What is proved.** The entries of a session that is through are a whole walk along its script ([`serve`], clause `walk`);
 //! those of any other are a way along it (`way`). A session is stopped only if a look found the stop word raised (`stopped`).
-//! `Run::finish` returns the passes of all sessions, each served (`served`), or the error of the first session that met one
-//! (`first`). A session without a script asks nothing (`IsServed`).
+//! `Run::serve` tells its worker to go on if and only if the session is through (`through`, `goes_on`). `Run::finish` returns the
+//! passes of all sessions, each served (`served`), or the error of a session that met one (`cause`, `first`); by inspection of the
+//! code, of the first. A session without a script asks nothing (`IsServed`).
 //!
 //! **Not claimed**: that a session comes to its end, or that `serve` returns: an Again may come again and again.
 #![tactic(auto)]

@@ -20,8 +20,8 @@
 //!
 //! **What is proved.** [`run_pool`] returns the passes of the sessions 1 to 32 in order (clause `sessions`), each served
 //! (`served`), and the sessions that each worker took: strictly ascending lists, in which each session with a script is once, and
-//! no other ([`Pooled`], `taken`: `AreTaken`). An error is that of the lowest-numbered session that met one, or out of memory
-//! (`first`, `cause`).
+//! no other ([`Pooled`], `taken`: `AreTaken`). An error is that of a session that met one, or out of memory (`first`, `cause`); by
+//! inspection of the code, that of the lowest-numbered one.
 //!
 //! **Not claimed**: that the run ends, that two workers are at work at the same time, or that work is shared evenly. After an
 //! error the other passes are gone, so the hall cannot be closed.

@@ -14,8 +14,8 @@
 //! - If no thread can be made, the hands are served one after the other.
 //!
 //! **What is proved.** [`run_threads`] returns the passes of the sessions 1 to 32 in order (clause `sessions`), each served: its
-//! entries are a whole walk along its script, or it has no script and asked nothing (`served`). An error is that of the least
-//! session that met one, or out of memory (`first`, `cause`).
+//! entries are a whole walk along its script, or it has no script and asked nothing (`served`). An error is that of a
+//! session that met one, or out of memory (`first`, `cause`); by inspection of the code, that of the least one.
 //!
 //! **Not claimed**: that the run ends, that two workers are at work at the same time, or which interleaving results. After an
 //! error the other passes are gone, so the hall cannot be closed.

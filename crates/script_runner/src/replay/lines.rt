@@ -1,6 +1,6 @@
 //! The requests of a script, in order.
 
-ghost use Rattle.std.specs.Prelude.{◌≡◌, ◌<◌, ◌≤◌, ◌++◌, ◌∷◌, [], IsTrue, List, OnOk, length};
+ghost use Rattle.std.specs.Prelude.{◌≡◌, ◌<◌, ◌≤◌, ◌++◌, ◌∷◌, [], IsTrue, List, OnErr, OnOk, length};
 ghost use Rattle.teb_rules.specs.Answer.{answer};
 ghost use Rattle.teb_rules.specs.Run.{history_after};
 ghost use Rattle.script_text.specs.declared.Answered.{Answered};
@@ -96,6 +96,8 @@ pub fn ask<C: Chains, L: Log>(
     ensures log { OnOk result ((told : List Answered) → L.tells log.old engine.old.names told → L.tells log.new engine.old.names
         (told ++ record { session = session; reply = (answer engine.old.store engine.old.events session request.now).0 } ∷ [])) }
     ensures events { OnOk result (engine.new.events ≡ (answer engine.old.store engine.old.events session request.now).1) }
+    ensures err { OnErr result ((engine.new.events ≡ engine.old.events)
+        × ((told : List Answered) → L.tells log.old engine.old.names told → L.tells log.new engine.old.names told)) }
 {
     log.ready(&engine.setup().names)?;
     engine.ready()?;

@@ -1,9 +1,11 @@
 -- The turn in a round that begins at any seat.
-use Rattle.std.proofs.Common.{◌≡◌, ℕ, zero, suc, option_map, set, ◌+◌, ◌-◌, ◌<◌, ◌≤◌, List, [], ◌∷◌, ◌++◌, Option, Some, None, inl, inr, get_or, length, take, drop, append_assoc, refl, sym, ◌∙◌, ap, ap₂, subst, arith, rules}
+use Rattle.std.proofs.Common.{◌≡◌, ℕ, zero, suc, option_map, set, ◌+◌, ◌-◌, ◌<◌, ◌≤◌, List, [], ◌∷◌, ◌++◌, Option, Some, None}
+use Rattle.std.proofs.Common.{inl, inr, get_or, length, take, drop, append_assoc, refl, sym, ◌∙◌, ap, ap₂, subst, arith, rules}
 use Rattle.std.specs.List.{AllWithin, slice_get}
 use Rattle.std.proofs.lemmas.Option.{slice_get-get_or, get_or_from_slice_get}
 use Rattle.std.proofs.lemmas.Bool.{cases_lt}
-use Rattle.std.proofs.lemmas.List.{places, length-drop, length-take-le, take-append-drop, take-append-le, drop-append-le, take-take, drop-drop, get_or_append_left, get_or-append_right, get_or-drop, get_or-take, get_or-map, map-set, drop-set-lt, take_more_set, length-map}
+use Rattle.std.proofs.lemmas.List.{places, length-drop, length-take-le, take-append-drop, take-append-le, drop-append-le, take-take, drop-drop, get_or_append_left}
+use Rattle.std.proofs.lemmas.List.{get_or-append_right, get_or-drop, get_or-take, get_or-map, map-set, drop-set-lt, take_more_set, length-map}
 use Rattle.teb_rules.specs.declared.names.Session.{Session}
 use Rattle.teb_rules.specs.declared.names.Request.{Request}
 use Rattle.script_text.specs.declared.Line.{Line}

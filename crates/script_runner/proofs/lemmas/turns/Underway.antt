@@ -1,5 +1,6 @@
 -- The driver between two calls: its log, its history and its ring.
-use Rattle.std.proofs.Common.{◌≡◌, ℕ, zero, suc, ◌+◌, ◌<◌, ◌≤◌, Bool, true, false, List, [], ◌∷◌, ◌++◌, Option, Some, None, Result, Ok, Err, OnErr, length, take, drop, refl, sym, ◌∙◌, ap, ap₂, subst, subst₂, arith, length-append}
+use Rattle.std.proofs.Common.{◌≡◌, ℕ, zero, suc, ◌+◌, ◌<◌, ◌≤◌, Bool, true, false, List, [], ◌∷◌, ◌++◌, Option, Some, None, Result}
+use Rattle.std.proofs.Common.{Ok, Err, OnErr, length, take, drop, refl, sym, ◌∙◌, ap, ap₂, subst, subst₂, arith, length-append}
 use Rattle.std.specs.Prelude.{All}
 use Rattle.std.proofs.lemmas.List.{length-map, take-append-drop, map_push}
 use Rattle.teb_rules.specs.declared.names.naming.NameBook.{NameBook}

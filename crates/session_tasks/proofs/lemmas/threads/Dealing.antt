@@ -1,5 +1,6 @@
 -- Tasks are dealt into hands and taken out again.
-use Rattle.std.proofs.Common.{◌≡◌, ◌≢◌, ℕ, suc, ◌+◌, ◌-◌, ◌<◌, ◌≤◌, if◌then◌else◌, List, [], ◌∷◌, ◌++◌, map, length, set, get_or, get_or-set_other, length-set, All, Vec, eq-eqb, ne_eqb, refl, sym, ◌∙◌, ap, subst, arith}
+use Rattle.std.proofs.Common.{◌≡◌, ◌≢◌, ℕ, suc, ◌+◌, ◌-◌, ◌<◌, ◌≤◌, if◌then◌else◌, List, [], ◌∷◌, ◌++◌, map, length, set, get_or}
+use Rattle.std.proofs.Common.{get_or-set_other, length-set, All, Vec, eq-eqb, ne_eqb, refl, sym, ◌∙◌, ap, subst, arith}
 use Rattle.std.specs.declared.alloc.Global.{Global}
 use Rattle.std.proofs.lemmas.List.{get_or-set_same}
 use mathlib.Core.Logic.{dite}
