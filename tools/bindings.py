@@ -8,7 +8,7 @@
     tools/bindings.py --figures         the two figures count as well: they are to be within their bounds, on a machine that is idle
 
 It builds bindings/out/libtebaldi.a and libtebaldi.so, and then counts: the C tests and examples under the address and undefined behaviour
-sanitizers, the memory of a store in a file over 200,000 commits, the tests and examples in Rust and in Python, four threads over one store in each language, a program over a file in each language
+sanitizers, a store in a file that 32 threads share under these and the thread sanitizer, the memory of a store in a file over 200,000 commits, the tests and examples in Rust and in Python, four threads over one store in each language, a program over a file in each language
 that is killed again and again, the programs of README.md, and each worked run of `replay` in each language. It prints two figures: what an ask costs from C, and a transfer from Python. If a program is missing, it is named with the apt package that has it, and what
 needs it has failed. After the gate a library that is missing has failed too.
 """
@@ -35,6 +35,9 @@ BINDINGS, CRATE = TOP / "bindings", TOP / "crates" / "tebaldi_c"
 C, RUST, PYTHON, OUT = BINDINGS / "c", BINDINGS / "rust", BINDINGS / "python", BINDINGS / "out"
 WARNINGS = ["-std=c11", "-Wall", "-Wextra", "-Wpedantic", "-Werror"]
 SANITIZED = [*WARNINGS, "-g", "-O1", "-fsanitize=address,undefined", "-fno-sanitize-recover=all"]
+THREADED = [*WARNINGS, "-g", "-O1", "-fsanitize=thread"]
+# The functions that the test of a shared store wraps, to count their calls.
+WRAPPED = ["fdatasync", *(f"tebaldi_{name}" for name in ("ask_ahead", "write", "next_call", "performed", "failed", "file_state"))]
 PACKAGES = {"rt": None, "gcc": "gcc libc6-dev", "ar": "binutils", "cargo": "cargo", "rustc": "rustc", "valgrind": "valgrind"}
 COMMITTED = r"committed 200, sum 300\n"
 # The bounds of the figures: an ask from C beside the engine's answer, in instructions, and a transfer from Python, in microseconds.
@@ -89,9 +92,9 @@ def why_of(ran, wanted=None):
 
 
 def make_library(given):
-    """Makes libtebaldi.a, which is the proved library, heap.c and tebaldi_file.c, and libtebaldi.so of it. Returns why that failed, or None."""
+    """Makes libtebaldi.a, which is the proved library, heap.c, tebaldi_file.c and tebaldi_shared.c, and libtebaldi.so of it. Returns why that failed, or None."""
     OUT.mkdir(parents=True, exist_ok=True)
-    archive, parts = OUT / "libtebaldi.a", ["heap", "tebaldi_file"]
+    archive, parts = OUT / "libtebaldi.a", ["heap", "tebaldi_file", "tebaldi_shared"]
     if not given:
         quick = TOP / "tools" / "rt_quick"
         why = why_of(run(quick if quick.exists() else "rt", "lib", cwd=CRATE))
@@ -99,9 +102,9 @@ def make_library(given):
             return why
     shutil.copyfile(given or CRATE / "out" / "libtebaldi_c.a", archive)
     commands = [
-        *(["gcc", *WARNINGS, "-O2", "-fPIC", "-c", C / f"{part}.c", "-o", OUT / f"{part}.o"] for part in parts),
+        *(["gcc", *WARNINGS, "-O2", "-fPIC", "-pthread", "-c", C / f"{part}.c", "-o", OUT / f"{part}.o"] for part in parts),
         ["ar", "rs", archive, *(OUT / f"{part}.o" for part in parts)],
-        ["gcc", "-shared", "-Wl,--whole-archive", archive, "-Wl,--no-whole-archive", "-o", OUT / "libtebaldi.so"],
+        ["gcc", "-shared", "-pthread", "-Wl,--whole-archive", archive, "-Wl,--no-whole-archive", "-o", OUT / "libtebaldi.so"],
     ]
     return next(filter(None, (why_of(run(*command)) for command in commands)), None)
 
@@ -111,6 +114,23 @@ def compiled(tally, source, flags=SANITIZED, *more):
     program = OUT / f"c_{source.stem}"
     why = why_of(run("gcc", *flags, "-I", C, source, OUT / "libtebaldi.a", *more, "-o", program))
     return program if tally.count(f"gcc {source.name}", why) else None
+
+
+def try_shared(tally):
+    """Tries a store that threads share, whose C files are built with each sanitizer too."""
+    files, wraps = [C / "tebaldi_shared.c", C / "tebaldi_file.c"], [f"-Wl,--wrap={name}" for name in WRAPPED]
+    for name, flags in (("shared", SANITIZED), ("shared, thread sanitizer", THREADED)):
+        program = compiled(tally, C / "tests" / "shared.c", [*flags, *files], "-pthread", *wraps)
+        if not program:
+            continue
+        with tempfile.TemporaryDirectory() as folder:
+            ran = run(program, folder)
+        # (that sanitizer does not start if the system spreads addresses too far)
+        if b"unexpected memory mapping" in ran.stderr:
+            with tempfile.TemporaryDirectory() as folder:
+                ran = run("setarch", "-R", program, folder)
+        if tally.count(f"C {name}", why_of(ran, r"shared: \d+ commits in \d+ epochs, 0\.\d\d syncs for each; \d+ as wanted, 0 not\n")):
+            print(f"bindings: {ran.stdout.decode()}", end="", flush=True)
 
 
 def try_c(tally):
@@ -128,11 +148,13 @@ def try_c(tally):
         if program:
             with tempfile.TemporaryDirectory() as folder:
                 tally.count(f"C {name}", why_of(run(program, folder), rf"{name}: \d+ as wanted, 0 not\n"))
+    try_shared(tally)
     program = compiled(tally, C / "tests" / "level.c", [*WARNINGS, "-O2"])
     if program:
-        ran = run(program)
-        if tally.count("C level", why_of(ran, r"200000 commits, \d+ KiB at epoch 5, -?\d+ KiB more at the end\n")):
-            print(f"bindings: a store in a file from C: {ran.stdout.decode()}", end="", flush=True)
+        for word in ("commits", "rows"):
+            ran = run(program, word)
+            if tally.count(f"C level {word}", why_of(ran, r"\d+ commits in \d+ epochs: \d+ KiB in the first \d+, \d+ KiB at most later\n")):
+                print(f"bindings: a store in a file from C: {ran.stdout.decode()}", end="", flush=True)
     try_kills(tally, "C", [compiled(tally, C / "examples" / "bank.c", [*WARNINGS, "-O2"])])
     for source in sorted((C / "examples").glob("*.out")):
         program = compiled(tally, source.with_suffix(".c"))

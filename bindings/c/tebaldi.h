@@ -1,7 +1,8 @@
 /* Tebaldi for C: a transactional key-value store of whole numbers, linked from libtebaldi.a.
  *
  * What each function returns and writes is proved, for callers that keep the rules below. Nothing checks that a caller keeps them.
- * The four functions tebaldi_file_* are C (tebaldi_file.c) and not proved: they carry out on a file what the proved ones ask for.
+ * The four functions tebaldi_file_* (tebaldi_file.c) and the six tebaldi_shared_* (tebaldi_shared.c) are C and not proved: they carry out on a file
+ * what the proved ones ask for.
  *
  * Rules for callers
  * 1. No pointer is null, not even beside a length of 0. A pointer with a length points to that many elements, all of them written before
@@ -11,14 +12,17 @@
  *    calls. Of two copies of an open store, use one and forget the other. A `struct tebaldi_file` likewise: it begins as TEBALDI_FILE_CLOSED,
  *    or as zeros, which mean the same.
  * 4. One call at a time uses a store, also one that only reads: so no pointer to a store is `const`. It may go to another thread if a lock, a
- *    thread's start or a join orders the calls.
+ *    thread's start or a join orders the calls. Several threads share a store by rule 8.
  * 5. A `struct tebaldi_reply` that is passed in is zeros, or what a call has written. A `struct tebaldi_event` likewise.
  * 6. No function is called from a signal handler, or in the forked child of a process with threads. After a fork one of the two processes
  *    uses an open store, and the other one forgets it, by rule 3: two that go on with a file spoil it. A file stays locked as long as one of
  *    them has its descriptor `fd`. So a child that forgets a store closes this descriptor, sets the struct to TEBALDI_FILE_CLOSED, and calls
  *    no function for it. A child that runs another program has no descriptor of it.
  * 7. malloc, realloc and free come from one allocator, with blocks as the C standard describes them. A program that defines rattle_alloc,
- *    rattle_realloc and rattle_dealloc of heap.c itself uses its own allocator; tebaldi_file.c calls malloc nevertheless.
+ *    rattle_realloc and rattle_dealloc of heap.c itself uses its own allocator; tebaldi_file.c and tebaldi_shared.c call malloc nevertheless.
+ * 8. Several threads may use a `struct tebaldi_shared` at once, from its opening on, and all their calls have returned before its closing. Only the
+ *    thread that has the lock of tebaldi_shared_lock unlocks it. No thread has it at the closing. No thread is cancelled (pthread_cancel) in a
+ *    call.
  *
  * In C++ the structs tebaldi_version, tebaldi_event and tebaldi_file_state are named with `struct`, since functions have these names too.
  */
@@ -44,7 +48,7 @@ enum {
     TEBALDI_NOT_OPEN = 1,      /* the store is not open */
     TEBALDI_IS_OPEN = 2,       /* the store is already open */
     TEBALDI_BAD_TREE = 3,      /* the tree text has a fault */
-    TEBALDI_BAD_VERB = 4,      /* the request's verb is none */
+    TEBALDI_BAD_VERB = 4,      /* there is no such verb */
     TEBALDI_NO_SUCH = 5,       /* no such name, number, event or reply */
     TEBALDI_OUT_OF_MEMORY = 6,
     TEBALDI_BAD_RUN = 7,       /* the printed run has a wrong line */
@@ -55,9 +59,9 @@ enum {
 
     /* Of a store in a file. */
     TEBALDI_STOPPED = 12,        /* a call on the file has failed: nothing is answered; open the file anew */
-    TEBALDI_UNSURE = 13,         /* of tebaldi_file_*: the file may have this commit, or this epoch, or not; the store is stopped */
+    TEBALDI_UNSURE = 13,         /* the file may have this commit, or the new epoch, or not; the store is stopped */
     TEBALDI_NO_ROOM = 14,        /* a commit does not fit what is left of its epoch: begin the next one; or the rows do not fit the file */
-    TEBALDI_WAITING = 15,        /* calls on the file wait to be performed */
+    TEBALDI_WAITING = 15,        /* calls on the file wait to be performed, or commits wait for tebaldi_write */
     TEBALDI_DAMAGED = 16,        /* the file is no store, or a damaged one */
     TEBALDI_OTHER_CAPACITY = 17, /* the file has a store of another capacity */
     TEBALDI_BUSY = 18,           /* the file is open as a store already */
@@ -273,8 +277,8 @@ uint32_t tebaldi_audit(const uint8_t *text, size_t text_len, uint32_t *line, uin
  * `kept` ones of struct tebaldi_file_state.
  *
  * The functions tebaldi_file_* do that: a commit is in the file before it is told. Most programs call only these, and for all that reads
- * (numbers, names, lines, order, rows, events) the functions above with `&file.store`. No program calls tebaldi_ask, tebaldi_next_epoch or
- * tebaldi_close with `&file.store`: they do not reach the file.
+ * (numbers, names, lines, order, rows, events) the functions above with `&file.store`. No program calls tebaldi_ask,
+ * tebaldi_ask_ahead, tebaldi_write, tebaldi_next_epoch or tebaldi_close with `&file.store`: they do not reach the file.
  *
  * The file is a regular one on a local file system. Its lock keeps out the programs that ask for it (by flock), and on a network file system
  * perhaps not those of other machines. While it is open nothing else writes, cuts or replaces it. To copy a store, close it and copy the file,
@@ -338,18 +342,78 @@ struct tebaldi_file_state {
 uint32_t tebaldi_open_image(struct tebaldi_store *store, const uint8_t *image, size_t image_len, const uint8_t *tree, size_t tree_len, uint8_t *fault,
                             size_t fault_room, size_t *fault_len, uint64_t *place);
 
-/* Reads the first call that waits. Of a write, as many of its bytes from `from` on as fit are copied to `out`. Until none waits, tebaldi_ask and
- * tebaldi_next_epoch return TEBALDI_WAITING. TEBALDI_NOT_OPEN; TEBALDI_NO_SUCH if none waits, or the store has no file. */
+/* Reads the first call that waits. Of a write, as many of its bytes from `from` on as fit are copied to `out`. Until none waits, tebaldi_ask,
+ * tebaldi_next_epoch and tebaldi_write return TEBALDI_WAITING. TEBALDI_NOT_OPEN; TEBALDI_NO_SUCH if none waits, or the store has no file. */
 uint32_t tebaldi_next_call(struct tebaldi_store *store, size_t from, struct tebaldi_call *call, uint8_t *out, size_t room);
 
 /* Tells that the first call that waits was performed. TEBALDI_NOT_OPEN, TEBALDI_NO_SUCH. */
 uint32_t tebaldi_performed(struct tebaldi_store *store);
 
-/* Tells that a call on the file has failed: from then on tebaldi_ask and tebaldi_next_epoch answer nothing. TEBALDI_NOT_OPEN, TEBALDI_NO_SUCH. */
+/* Tells that a call on the file has failed: from then on tebaldi_ask, tebaldi_ask_ahead, tebaldi_write and tebaldi_next_epoch answer nothing.
+ * TEBALDI_NOT_OPEN, TEBALDI_NO_SUCH. */
 uint32_t tebaldi_failed(struct tebaldi_store *store);
 
 /* Tells what is known of a store's file. TEBALDI_NOT_OPEN; TEBALDI_NO_SUCH if the store has no file. */
 uint32_t tebaldi_file_state(struct tebaldi_store *store, struct tebaldi_file_state *state);
+
+/* Answers a request as tebaldi_ask does, also while calls on the file wait. A commit that is answered then waits for tebaldi_write. `*number` is its
+ * number among the commits of this epoch, from 1 on: it is to be told only once `kept` of struct tebaldi_file_state has reached it. At any other
+ * reply `*number` is 0. Until tebaldi_write has noted their calls, tebaldi_ask and tebaldi_next_epoch return TEBALDI_WAITING.
+ * TEBALDI_NOT_OPEN, TEBALDI_BAD_VERB, TEBALDI_OUT_OF_MEMORY, TEBALDI_STOPPED, TEBALDI_NO_ROOM; TEBALDI_NO_SUCH of a store without a file. At each of
+ * them nothing is changed. */
+uint32_t tebaldi_ask_ahead(struct tebaldi_store *store, uint8_t session, const struct tebaldi_request *request, struct tebaldi_reply *reply,
+                           uint64_t *number);
+
+/* Notes the calls that put all commits that wait into the file: two writes and two syncs, however many they are, and none if no commit waits.
+ * TEBALDI_WAITING if calls wait already; TEBALDI_STOPPED; TEBALDI_UNSURE if memory is out: the store is stopped, and the file may have these
+ * commits or not; TEBALDI_NOT_OPEN; TEBALDI_NO_SUCH of a store without a file. */
+uint32_t tebaldi_write(struct tebaldi_store *store);
+
+/* ---- A store in a file, for threads
+ *
+ * The functions tebaldi_shared_* share a store in a file among threads. Any thread may ask at any time; one thread at a time uses a session. The
+ * store and its file are as above. A program that calls these functions is linked with -pthread.
+ *
+ * - A commit that is told is in the file, with every commit whose rows its transaction has read. Each commit makes a record, also that of a
+ *   transaction that only reads.
+ * - A request that is no commit does not wait for the file. A commit is answered at once, and its thread sleeps until the file has it. Commits that
+ *   wait at the same time share two syncs. The thread of one of them makes these, and then leaves.
+ * - So a read may see a commit that is not yet in the file, and that a crash takes back. What a transaction has read is safe once its own commit is
+ *   told, and not before. The same is true of what the functions show that read the store.
+ * - If a call on the file fails, each commit that was not told is answered TEBALDI_UNSURE, unless the file had it before; and each later request
+ *   TEBALDI_STOPPED.
+ *
+ * A reply TEBALDI_AGAIN is returned as it is: the thread lets others go on, and asks again. The transaction that it waits for does not wait for the
+ * file. A call of a thread that has the lock of tebaldi_shared_lock returns TEBALDI_IO, with errno EDEADLK, and changes nothing.
+ * After a fork the child makes no call for the store. Until it runs another program or ends, it keeps the file locked. */
+
+/* A store, its file and their lock. */
+struct tebaldi_shared;
+
+/* Opens a file as tebaldi_file_open does, and allocates `*shared`. Errors are those of tebaldi_file_open, without TEBALDI_IS_OPEN. At each of them
+ * `*shared` is as it was. TEBALDI_OUT_OF_MEMORY also if the system makes no lock. */
+uint32_t tebaldi_shared_open(struct tebaldi_shared **shared, const char *path, const uint8_t *tree, size_t tree_len, uint8_t *fault,
+                             size_t fault_room, size_t *fault_len, uint64_t *place);
+
+/* Answers a request as tebaldi_file_ask does. A commit that is told is in the file. TEBALDI_BAD_VERB, TEBALDI_OUT_OF_MEMORY, TEBALDI_STOPPED; at a
+ * commit TEBALDI_NO_ROOM, and TEBALDI_UNSURE if a call on the file fails, or memory for the write is out: errno says why. */
+uint32_t tebaldi_shared_ask(struct tebaldi_shared *shared, uint8_t session, const struct tebaldi_request *request, struct tebaldi_reply *reply);
+
+/* Begins the next epoch as tebaldi_file_next_epoch does. Commits that wait are put into the file first. It returns TEBALDI_UNFINISHED if a
+ * transaction is open: so the program lets no thread begin one while an epoch is to end, as tests/shared.c does. */
+uint32_t tebaldi_shared_next_epoch(struct tebaldi_shared *shared, const uint8_t *tree, size_t tree_len, uint8_t *fault, size_t fault_room,
+                                   size_t *fault_len, uint32_t *who);
+
+/* Keeps the other threads out, and returns the store, for the functions that read it: tebaldi_number, tebaldi_name, tebaldi_line, tebaldi_order,
+ * tebaldi_rows, tebaldi_event, tebaldi_run_text, tebaldi_file_state. No other function is called with it. The calls of other threads wait until
+ * tebaldi_shared_unlock. Null if this thread has the lock already. */
+struct tebaldi_store *tebaldi_shared_lock(struct tebaldi_shared *shared);
+
+/* Lets the other threads in. The store of tebaldi_shared_lock is not used any more. */
+void tebaldi_shared_unlock(struct tebaldi_shared *shared);
+
+/* Closes a store and its file, unlocks it, and frees `shared`. As tebaldi_file_close it writes nothing. */
+void tebaldi_shared_close(struct tebaldi_shared *shared);
 
 #ifdef __cplusplus
 }

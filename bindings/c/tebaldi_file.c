@@ -6,18 +6,13 @@
 #ifndef _GNU_SOURCE
 #define _GNU_SOURCE
 #endif
-#include "tebaldi.h"
+#include "tebaldi_io.h"
 
-#include <errno.h>
 #include <fcntl.h>
 #include <stdlib.h>
 #include <string.h>
 #include <sys/file.h>
 #include <sys/stat.h>
-#include <unistd.h>
-
-/* How many bytes of a write are taken at once. */
-enum { PIECE = 16384 };
 
 /* The least descriptor that a file has. It is not that of standard input, output or error, so a program that prints does not write to it by
  * mistake; and 0, which a struct of zeros has, is no descriptor of a file. */
@@ -29,37 +24,17 @@ static bool has_file(const struct tebaldi_file *file)
     return file->fd > 0;
 }
 
-/* Writes all of some bytes at a place. Returns 0, or -1 and sets errno. */
-static int write_whole(int fd, const uint8_t *bytes, size_t len, uint64_t at)
-{
-    while (len > 0) {
-        ssize_t n = pwrite(fd, bytes, len, (off_t)at);
-        if (n < 0 && errno == EINTR)
-            continue;
-        if (n <= 0) {
-            if (n == 0)
-                errno = EIO;
-            return -1;
-        }
-        bytes += n;
-        len -= (size_t)n;
-        at += (size_t)n;
-    }
-    return 0;
-}
-
 /* Carries out the call that waits, whose first bytes are in `bytes`. Returns 0, or -1 and sets errno. */
 static int carry_out(struct tebaldi_file *file, struct tebaldi_call call, uint8_t *bytes)
 {
-    if (call.kind == TEBALDI_SYNC)
-        return fdatasync(file->fd);
-    for (size_t done = 0; done < call.len; done += PIECE) {
-        size_t len = call.len - done < PIECE ? call.len - done : PIECE;
-        if (done > 0 && tebaldi_next_call(&file->store, done, &call, bytes, PIECE) != TEBALDI_OK) {
+    if (carry_out_piece(file->fd, &call, 0, bytes) != 0)
+        return -1;
+    for (size_t done = PIECE; done < call.len; done += PIECE) {
+        if (tebaldi_next_call(&file->store, done, &call, bytes, PIECE) != TEBALDI_OK) {
             errno = EIO;
             return -1;
         }
-        if (write_whole(file->fd, bytes, len, call.at + done) != 0)
+        if (carry_out_piece(file->fd, &call, done, bytes) != 0)
             return -1;
     }
     return 0;

@@ -37,7 +37,7 @@ class Again(TebaldiError):
 class Aborted(TebaldiError):
     """The transaction was aborted, and is over.
 
-    `cause` is "late", "first", "pivot", "newer", "after", "asked" or "ended"; `line` is the store's reply in words.
+    `cause` is "late", "first", "pivot", "newer", "after", "asked" or "ended" (docs/FORMATS.md explains each); `line` is the store's reply in words.
     """
 
     def __init__(self, cause: str, line: str):
@@ -53,7 +53,7 @@ class Refused(TebaldiError):
     """A request cannot be answered. Its transaction, if it has one, was aborted, and is over.
 
     `why` is "bad-session", "in-txn", "unknown-type", "full" (8,192 transactions have begun: Store.next_epoch goes on), "no-txn",
-    "unknown-table", "prepared", "not-in-profile", "range", "not-read" or "overflow".
+    "unknown-table", "prepared", "not-in-profile", "range", "not-read" or "overflow": docs/FORMATS.md explains each.
     """
 
     def __init__(self, why: str):

@@ -34,7 +34,7 @@ set_up_reopened m bytes f whole nodes names r = record { setup = m; whole = whol
 pub hindered : (e : EngineModel) (m : SetupView) (why : SwitchError) → m.rows ≡ [] → IsCause e m why → IsHindrance e m.tables why
 hindered e m (Again t) none cause = cause
 hindered e m (Untold s) none cause = cause
-hindered e m Tables none cause = cause.1
+hindered e m Tables none cause = cause
 hindered e m Rows none cause = absurd (cause.2 none)
 hindered e m OutOfMemory none cause = tt
 

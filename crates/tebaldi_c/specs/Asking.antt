@@ -5,7 +5,7 @@ use Rattle.teb_rules.specs.Answer.{answer}
 use Rattle.engine_core.specs.EngineModel.{EngineModel}
 use Rattle.c_forms.specs.declared.replies.ReplyForm.{ReplyForm}
 use Rattle.c_forms.specs.Replies.{reply_form}
-use Rattle.tebaldi_c.specs.Shelves.{FileState, ShelfState}
+use Rattle.tebaldi_c.specs.Shelves.{FileState, IsIdle, ShelfState}
 use Rattle.tebaldi_c.specs.declared.status.TheConstants.{OK, NOT_OPEN, BAD_VERB, OUT_OF_MEMORY, STOPPED, NO_ROOM, WAITING}
 
 -- the engine has answered a request of a session, and this is the form of its reply
@@ -30,16 +30,26 @@ abbrev pub IfFile : Option FileState → (FileState → Type 0) → Type 0
 IfFile None P = Unit {0}
 IfFile (Some f) P = P f
 
--- no call waits to be performed on the file, if there is one
+-- no commit waits for its calls, and no call to be performed on the file, if there is one
 abbrev pub IsSettled : Option FileState → Type 0
 IsSettled None = Unit {0}
-IsSettled (Some f) = f.waiting ≡ 0
+IsSettled (Some f) = IsIdle f
 
--- until no call waits, the same number of commits is in the file; and a call on it has failed if one had
+-- until no call waits, the same number of commits is in the file; and the rest of what is known of it is the same
 abbrev pub IsFileKept : Option FileState → Option FileState → Type 0
 IsFileKept None None = Unit {0}
-IsFileKept (Some f) (Some g) = (0 < g.waiting → g.kept ≡ f.kept) × (g.failed ≡ f.failed)
+IsFileKept (Some f) (Some g) = (0 < g.waiting → g.kept ≡ f.kept) × (g.failed ≡ f.failed) × (g.gathered ≡ f.gathered) × (g.opened ≡ f.opened)
 IsFileKept _ _ = ⊥
+
+-- this holds of the file before and after, if there is one
+abbrev pub IfFiles : (FileState → FileState → Type 0) → Option FileState → Option FileState → Type 0
+IfFiles P None None = Unit {0}
+IfFiles P (Some f) (Some g) = P f g
+IfFiles P _ _ = ⊥
+
+abbrev pub IfBothFiles : (FileState → FileState → Type 0) → Option ShelfState → Option ShelfState → Type 0
+IfBothFiles P (Some s) (Some t) = IfFiles P s.file t.file
+IfBothFiles P _ _ = ⊥
 
 -- there was a store if and only if there is one, and its file is kept
 abbrev pub IsKept : Option ShelfState → Option ShelfState → Type 0

@@ -28,9 +28,11 @@ IsNextCall (Some f) from told old new = IsCall (slice_get (calls f) (next_place 
 -- one call fewer waits; the store is the same, and until none waits the same commits are kept
 pub record IsPerformed (f g : FileState) : Type 0 where
   pub journal : g.journal ≡ f.journal
+  pub gathered : g.gathered ≡ f.gathered
   pub waiting : g.waiting + 1 ≡ f.waiting
   pub kept : 0 < g.waiting → g.kept ≡ f.kept
   pub failed : g.failed ≡ f.failed
+  pub opened : f.opened ≡ true → g.opened ≡ true
 
 abbrev pub FilesAfter : Option FileState → Option FileState → Type 0
 FilesAfter (Some f) (Some g) = IsPerformed f g

@@ -2,8 +2,8 @@
 use Rattle.std.specs.Prelude.{◌≡◌, ◌≢◌, ◌⊎◌, ℕ, List, [], Option, Some, Result, Ok, Err}
 use Rattle.store_setup.specs.SetupView.{SetupView}
 use Rattle.store_setup.specs.Stores.{store_of_view, names_of}
-use Rattle.serial_order.specs.Tables.{IsFinalRows}
-use Rattle.tree_switch.specs.Refusals.{AllFinished, IsLeast, IsUnfinished, IsUntold}
+use Rattle.teb_rules.specs.Epochs.{AreFinalRows, IsDrained, IsUntold}
+use Rattle.tree_switch.specs.Refusals.{AllFinished, IsLeast, IsUnfinished}
 use Rattle.tree_switch.specs.declared.error.SwitchError.{SwitchError}
 use Rattle.tree_switch.specs.declared.error.SwitchError.TheVariants.{Again, Untold, Tables, Rows, OutOfMemory}
 use Rattle.tree_toml.specs.declared.fault.TreeTextError.{TreeTextError}
@@ -17,7 +17,7 @@ pub record IsNext (m : SetupView) (before e : EngineModel) : Type 0 where
   pub tables : e.store.tables ≡ (store_of_view m).tables
   pub names : e.names ≡ names_of m
   pub events : e.events ≡ []
-  pub rows : IsFinalRows before.store before.events e.store.rows
+  pub rows : AreFinalRows before.store before.events e.store.rows
 
 -- a setup was read, and the store goes on under it
 abbrev pub IsNextOf : Result SetupView TreeTextError → EngineModel → EngineModel → Type 0
@@ -35,7 +35,7 @@ IsFirstUntold e s = AllFinished e.events × IsLeast (IsUntold e.events) s
 abbrev pub IsHindrance : EngineModel → List (List ℕ) → SwitchError → Type 0
 IsHindrance e tables (Again t) = IsLeast (IsUnfinished e.events) t.0
 IsHindrance e tables (Untold s) = AllFinished e.events × IsLeast (IsUntold e.events) s.0
-IsHindrance e tables Tables = tables ≢ e.names.tables
+IsHindrance e tables Tables = IsDrained e.events × (tables ≢ e.names.tables)
 IsHindrance e tables Rows = ⊥
 IsHindrance e tables OutOfMemory = Unit {0}
 

@@ -4,9 +4,10 @@ ghost use Rattle.std.specs.Prelude.{◌≡◌, ◌≢◌, ◌↔◌, ◌⊎◌, 
 ghost use Rattle.teb_rules.specs.Answer.{answer};
 ghost use Rattle.c_forms.specs.Requests.{request_in as read};
 ghost use Rattle.c_forms.specs.Replies.{reply_form as form};
-ghost use Rattle.tebaldi_c.specs.Asking.{IfOpen, IsAnswered, IsAsked, IsKept, IsFileKept, HasFailed, IsFailed, IsInMemory, IsNoReply, IsOfAsk, IsOfMemoryAsk, IsSettled};
-ghost use Rattle.tebaldi_c.specs.Hindered.{HasWaiting, IsFullFor, IsFullForForm, IsStopped};
+ghost use Rattle.tebaldi_c.specs.Asking.{IfBothFiles, IfFiles, IfOpen, IsAnswered, IsAsked, IsKept, IsFileKept, HasFailed, IsFailed, IsInMemory, IsNoReply, IsOfAsk, IsOfMemoryAsk, IsSettled};
+ghost use Rattle.tebaldi_c.specs.Hindered.{HasWaiting, IsOnlyWaiting, IsFullFor, IsFullForForm, IsStopped};
 ghost use Rattle.tebaldi_c.specs.Images.{IfFiled};
+ghost use Rattle.tebaldi_c.specs.Shelves.{IsIdle, IsShown};
 
 use crate::contents::Contents;
 use crate::filed::FileStore;
@@ -24,7 +25,8 @@ use teb_rules::names::{Request, Session};
 /// commit into a store's file wait then, and the caller performs them before it tells of the commit.
 ///
 /// # Errors
-/// `NOT_OPEN`, `BAD_VERB`, `OUT_OF_MEMORY`. Of a store in a file also `WAITING` if calls wait, `STOPPED` if a call on the file has failed,
+/// `NOT_OPEN`, `BAD_VERB`, `OUT_OF_MEMORY`. Of a store in a file also `STOPPED` if a call on the file has failed; else `WAITING` if calls wait,
+/// or commits for theirs;
 /// and `NO_ROOM` if the rest of this epoch's part of the file may not hold the commit. At each of them the store and the reply are
 /// unchanged.
 #[unsafe(no_mangle)]
@@ -44,7 +46,10 @@ pub extern "C" fn tebaldi_ask(
     ensures not_open { result ≡ NOT_OPEN ↔ IsNone store.old.held.value }
     ensures waiting { result ≡ WAITING → IfOpen store.old.held.value (λ s. IfFiled s HasWaiting) }
     ensures settled { result ≡ OK → IfOpen store.old.held.value (λ s. IsSettled s.file) }
+    ensures shown { result ≡ OK → IfBothFiles IsShown store.old.held.value store.new.held.value }
+    ensures waits { result ≢ BAD_VERB → IfOpen store.old.held.value (λ s. IfFiled s IsOnlyWaiting) → result ≡ WAITING }
     ensures stopped { result ≡ STOPPED → IfOpen store.old.held.value (λ s. IfFiled s IsStopped) }
+    ensures halts { result ≢ BAD_VERB → IfOpen store.old.held.value (λ s. IfFiled s IsStopped) → result ≡ STOPPED }
     ensures no_room { result ≡ NO_ROOM → IfOpen store.old.held.value (λ s. IfFiled s (IsFullForForm session (read request.now))) }
     ensures sure { result ≢ UNSURE }
     ensures bad_verb { result ≡ BAD_VERB ↔ IsSome store.old.held.value × IsNone (read request.now) }
@@ -78,7 +83,10 @@ impl Shelf {
         ensures kept { IsFileKept self.old.file self.new.file }
         ensures waiting { result ≡ WAITING → IfFiled self.old HasWaiting }
         ensures settled { result ≡ OK → IsSettled self.old.file }
+        ensures shown { result ≡ OK → IfFiles IsShown self.old.file self.new.file }
+        ensures waits { IfFiled self.old IsOnlyWaiting → result ≡ WAITING }
         ensures stopped { result ≡ STOPPED → IfFiled self.old IsStopped }
+        ensures halts { IfFiled self.old IsStopped → result ≡ STOPPED }
         ensures no_room { result ≡ NO_ROOM → IfFiled self.old (IsFullFor session.0 request.now) }
         ensures failed { IsFailed self.old.file → result ≢ OK }
         ensures other { (result ≡ OK) ⊎ IsNoReply result }
@@ -107,10 +115,15 @@ fn ask_file(
     ensures not_told { result ≢ OK → reply.new ≡ reply.old }
     ensures same { (file.new.engine.store ≡ file.old.engine.store) × (file.new.engine.names ≡ file.old.engine.names) }
     ensures kept { 0 < file.new.file.waiting → file.new.file.kept ≡ file.old.file.kept }
+    ensures gathered { file.new.file.gathered ≡ file.old.file.gathered }
     ensures same_failure { file.new.file.failed ≡ file.old.file.failed }
     ensures waiting { result ≡ WAITING → HasWaiting file.old }
-    ensures settled { result ≡ OK → file.old.file.waiting ≡ 0 }
+    ensures settled { result ≡ OK → IsIdle file.old.file }
+    ensures shown { result ≡ OK → IsShown file.old.file file.new.file }
+    ensures opened { file.new.file.opened ≡ file.old.file.opened }
+    ensures waits { IsOnlyWaiting file.old → result ≡ WAITING }
     ensures stopped { result ≡ STOPPED → IsStopped file.old }
+    ensures halts { IsStopped file.old → result ≡ STOPPED }
     ensures no_room { result ≡ NO_ROOM → IsFullFor session.0 request.now file.old }
     ensures failed { file.old.file.failed ≡ true → result ≢ OK }
     ensures other { (result ≡ OK) ⊎ IsNoReply result }
@@ -118,7 +131,7 @@ fn ask_file(
     if file.is_stopped() {
         return STOPPED;
     }
-    if file.waiting() > 0 {
+    if !file.is_idle() {
         return WAITING;
     }
     match file.ask(alloc, session, *request) {

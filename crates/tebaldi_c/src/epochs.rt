@@ -1,17 +1,19 @@
 //! How a store goes on.
 
-ghost use Rattle.std.specs.Prelude.{◌≡◌, ◌≢◌, ◌↔◌, ◌⊎◌, true, None, IsNone, IfOk, IfErr};
+ghost use Rattle.std.specs.Prelude.{◌≡◌, ◌≢◌, ◌↔◌, ◌⊎◌, true, None, IsNone, IfOk, IfErr, OnOk};
 ghost use Rattle.store_setup.specs.SetupView.{setup_view};
 ghost use Rattle.store_setup.specs.Sound.{IsWhole, IsNamed, HasNames};
+ghost use Rattle.teb_rules.specs.Epochs.{IsDrained};
 ghost use Rattle.tree_toml.specs.SetupText.{setup_of_text};
 ghost use Rattle.tree_switch.specs.Starts.{IsStarted};
-ghost use Rattle.tebaldi_c.specs.Asking.{HasFailed, IfOpen, IsFailed, IsInMemory, IsSettled};
+ghost use Rattle.tebaldi_c.specs.Asking.{HasFailed, IfBothFiles, IfFiles, IfOpen, IsFailed, IsInMemory, IsSettled};
 ghost use Rattle.tebaldi_c.specs.Buffers.{IsTold};
 ghost use Rattle.tebaldi_c.specs.Epochs.{HasOtherTables, IfBoth, IsFirstUnfinished, IsFirstUntold, IsHindrance, IsNext, IsNextOf, IsOfEpoch, IsOfMemoryEpoch, IsOfMemoryNext, IsOfNext};
-ghost use Rattle.tebaldi_c.specs.Hindered.{HasNoRoomForRows, HasWaiting, IsStopped};
+ghost use Rattle.tebaldi_c.specs.Hindered.{HasNoRoomForRows, HasWaiting, IsOnlyWaiting, IsStopped};
 ghost use Rattle.tebaldi_c.specs.Images.{IfFiled};
 ghost use Rattle.tebaldi_c.specs.Opening.{fault_line};
 ghost use Rattle.tebaldi_c.specs.SetUp.{IsSetUp};
+ghost use Rattle.tebaldi_c.specs.Shelves.{IsIdle, IsShown};
 
 use crate::contents::Contents;
 use crate::filed::FileStore;
@@ -60,8 +62,13 @@ pub extern "C" fn tebaldi_next_epoch(
     ensures untold { result ≡ UNTOLD → IfOpen store.old.held.value (λ s. IsFirstUntold s.engine who.new) }
     ensures nobody { result ≢ UNFINISHED → result ≢ UNTOLD → who.new ≡ who.old }
     ensures other_tables { result ≡ OTHER_TABLES → IfOpen store.old.held.value (λ s. HasOtherTables (setup_of_text tree.now) s.engine) }
+    ensures drained { IsInMemory store.old.held.value → result ≡ OK → IfOpen store.old.held.value (λ s. IsDrained s.engine.events) }
+    ensures drained_tables { result ≡ OTHER_TABLES → IfOpen store.old.held.value (λ s. IsDrained s.engine.events) }
     ensures waiting { result ≡ WAITING → IfOpen store.old.held.value (λ s. IfFiled s HasWaiting) }
+    ensures waits { result ≢ BAD_TREE → result ≢ OUT_OF_MEMORY → IfOpen store.old.held.value (λ s. IfFiled s IsOnlyWaiting) → result ≡ WAITING }
+    ensures halts { result ≢ BAD_TREE → result ≢ OUT_OF_MEMORY → IfOpen store.old.held.value (λ s. IfFiled s IsStopped) → result ≡ STOPPED }
     ensures settled { result ≡ OK → IfOpen store.old.held.value (λ s. IsSettled s.file) }
+    ensures shown { result ≡ OK → IfBothFiles IsShown store.old.held.value store.new.held.value }
     ensures no_room { result ≡ NO_ROOM → IfOpen store.old.held.value (λ s. IfFiled s HasNoRoomForRows) }
     ensures stopped { result ≡ STOPPED → IfOpen store.old.held.value (λ s. IfFiled s IsStopped) }
     ensures other { IsOfEpoch result }
@@ -93,8 +100,13 @@ impl Shelf {
         ensures untold { result ≡ UNTOLD → IsFirstUntold self.old.engine who.new }
         ensures nobody { result ≢ UNFINISHED → result ≢ UNTOLD → who.new ≡ who.old }
         ensures other_tables { result ≡ OTHER_TABLES → setup.names.tables ≢ self.old.engine.names.tables }
+        ensures drained { self.old.file ≡ None → result ≡ OK → IsDrained self.old.engine.events }
+        ensures drained_tables { result ≡ OTHER_TABLES → IsDrained self.old.engine.events }
         ensures waiting { result ≡ WAITING → IfFiled self.old HasWaiting }
+        ensures waits { IfFiled self.old IsOnlyWaiting → result ≡ WAITING }
+        ensures halts { IfFiled self.old IsStopped → result ≡ STOPPED }
         ensures settled { result ≡ OK → IsSettled self.old.file }
+        ensures shown { result ≡ OK → IfFiles IsShown self.old.file self.new.file }
         ensures no_room { result ≡ NO_ROOM → IfFiled self.old HasNoRoomForRows }
         ensures stopped { result ≡ STOPPED → IfFiled self.old IsStopped }
         ensures status { (result ≡ OK) ⊎ IsOfNext result }
@@ -119,8 +131,12 @@ fn end_file_epoch(alloc: Global, file: &mut FileStore, setup: Setup, who: &mut u
     ensures untold { result ≡ UNTOLD → IsFirstUntold file.old.engine who.new }
     ensures nobody { result ≢ UNFINISHED → result ≢ UNTOLD → who.new ≡ who.old }
     ensures other_tables { result ≡ OTHER_TABLES → setup.names.tables ≢ file.old.engine.names.tables }
+    ensures drained_tables { result ≡ OTHER_TABLES → IsDrained file.old.engine.events }
     ensures waiting { result ≡ WAITING → HasWaiting file.old }
-    ensures settled { result ≡ OK → file.old.file.waiting ≡ 0 }
+    ensures waits { IsOnlyWaiting file.old → result ≡ WAITING }
+    ensures halts { IsStopped file.old → result ≡ STOPPED }
+    ensures settled { result ≡ OK → IsIdle file.old.file }
+    ensures shown { result ≡ OK → IsShown file.old.file file.new.file }
     ensures no_room { result ≡ NO_ROOM → HasNoRoomForRows file.old }
     ensures stopped { result ≡ STOPPED → IsStopped file.old }
     ensures set_up { IsSetUp file.old.engine.store file.old.engine.names → IsSetUp file.new.engine.store file.new.engine.names }
@@ -129,7 +145,7 @@ fn end_file_epoch(alloc: Global, file: &mut FileStore, setup: Setup, who: &mut u
     if file.is_stopped() {
         return STOPPED;
     }
-    if file.waiting() > 0 {
+    if !file.is_idle() {
         return WAITING;
     }
     match file.next_epoch(alloc, setup) {
@@ -162,6 +178,8 @@ fn end_epoch(alloc: Global, engine: &mut Engine<PooledChains>, setup: Setup, who
     ensures untold { result ≡ UNTOLD → IsFirstUntold engine.old who.new }
     ensures nobody { result ≢ UNFINISHED → result ≢ UNTOLD → who.new ≡ who.old }
     ensures other_tables { result ≡ OTHER_TABLES → setup.names.tables ≢ engine.old.names.tables }
+    ensures drained { result ≡ OK → IsDrained engine.old.events }
+    ensures drained_tables { result ≡ OTHER_TABLES → IsDrained engine.old.events }
     ensures set_up { IsSetUp engine.old.store engine.old.names → IsSetUp engine.new.store engine.new.names }
     ensures status { (result ≡ OK) ⊎ IsOfMemoryNext result }
 {
@@ -196,6 +214,7 @@ fn next_engine(
 ) -> Result<Engine<PooledChains>, SwitchError>
     requires { IsWhole (setup_view setup) }
     ensures refused { IfErr result (IsHindrance engine.now setup.names.tables) }
+    ensures drained { OnOk result (IsDrained engine.now.events) }
     ensures started { IfOk result (λ next. IsStarted setup engine.now next) }
 {
     let _ = engine.history();

@@ -22,6 +22,7 @@ use crate::store::StoreHandle;
 use chain_pool::PooledChains;
 use crash_disk::MemDisk;
 use engine_store::{EngineStore, OpenError};
+use grouped_store::GroupedStore;
 use std::alloc::Global;
 use store_setup::Setup;
 use tree_toml::read_tree;
@@ -132,13 +133,13 @@ impl FileStore {
         let disk = MemDisk::of(alloc, bytes, FILE_CAPACITY)?;
         let before = disk.call_count();
         match EngineStore::open(alloc, disk, setup, PooledChains::new(alloc)) {
-            Ok(store) => Ok(FileStore::begun(store, before)),
+            Ok(store) => Ok(FileStore::begun(alloc, store, before)),
             Err(back) => Err(back.why),
         }
     }
 
     /// Returns the store with the calls after the first `before` ones waiting.
-    fn begun(store: EngineStore<PooledChains, MemDisk>, before: usize) -> FileStore
+    fn begun(alloc: Global, store: EngineStore<PooledChains, MemDisk>, before: usize) -> FileStore
         requires acknowledged { store.journal.acknowledged ≡ 0 }
         requires events { store.engine.events ≡ [] }
         requires disk { DoesNotFail store.journal.disk }
@@ -147,6 +148,8 @@ impl FileStore {
         ensures place { before ≤ length (calls result.file) → next_place result.file ≡ before }
         ensures running { result.file.failed ≡ false }
     {
+        let store = GroupedStore::of(alloc, store);
+        let noted = store.disk().byte_count();
         let waiting = store.disk().call_count().saturating_sub(before);
         FileStore {
             store,
@@ -154,6 +157,7 @@ impl FileStore {
             opened: waiting == 0,
             kept: 0,
             failed: false,
+            noted,
         }
     }
 }

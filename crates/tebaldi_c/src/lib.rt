@@ -12,6 +12,7 @@
 //! |---|---|
 //! | `tebaldi_open`, `tebaldi_close` | open a store over a tree text, and close it |
 //! | `tebaldi_ask`, `tebaldi_next_epoch` | answer a request; end the epoch, and begin the next under another tree text |
+//! | `tebaldi_ask_ahead`, `tebaldi_write` | of a store in a file: answer while calls wait; make the calls of all commits that wait |
 //! | `tebaldi_event`, `tebaldi_order`, `tebaldi_rows` | an event of the history, the serial order, the final rows |
 //! | `tebaldi_number`, `tebaldi_name`, `tebaldi_line` | names and numbers; the line of a reply |
 //! | `tebaldi_run_text`, `tebaldi_audit` | the printed run of the present epoch; check a printed run, which needs no store |
@@ -31,6 +32,7 @@
 //! anything of the C files that the build adds to the library, such as `heap.c`, which gives it memory.
 #![tactic(auto)]
 
+mod ahead;
 mod asking;
 mod auditing;
 mod buffers;

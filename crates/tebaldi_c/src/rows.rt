@@ -4,7 +4,7 @@ ghost use Rattle.std.specs.Prelude.{◌≡◌, ◌≢◌, ◌↔◌, Some, IsNon
 ghost use Rattle.teb_rules.specs.declared.names.Cell.{Cell as TheCell};
 ghost use Rattle.teb_rules.specs.Ranks.{serial_order};
 ghost use Rattle.serial_order.specs.Commits.{txn_numbers};
-ghost use Rattle.serial_order.specs.Tables.{IsFinalRows};
+ghost use Rattle.teb_rules.specs.Epochs.{AreFinalRows};
 ghost use Rattle.c_forms.specs.Rows.{row_forms};
 ghost use Rattle.tebaldi_c.specs.Asking.{IfOpen};
 ghost use Rattle.tebaldi_c.specs.Buffers.{IsTold};
@@ -101,7 +101,7 @@ fn numbers_of(alloc: Global, txns: &[Txn]) -> Result<Vec<u32>, AllocError>
 
 /// Returns the rows of the final tables, in ascending order.
 fn forms(alloc: Global, engine: &Engine<PooledChains>) -> Result<Vec<RowForm>, AllocError>
-    ensures { IfOk result (λ v. (rows : List (TheCell × ℤ)) × (IsFinalRows engine.now.store engine.now.events rows × (v.items ≡ row_forms rows))) }
+    ensures { IfOk result (λ v. (rows : List (TheCell × ℤ)) × (AreFinalRows engine.now.store engine.now.events rows × (v.items ≡ row_forms rows))) }
 {
     forms_of(alloc, &tables(alloc, engine)?)
 }

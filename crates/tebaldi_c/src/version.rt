@@ -14,11 +14,11 @@ pub struct VersionForm {
 /// Tells the version of the library. Versions with the same `major` have the same structs, functions and numbers.
 #[unsafe(no_mangle)]
 pub extern "C" fn tebaldi_version(version: &mut VersionForm)
-    ensures { version.new ≡ record { major = 1; minor = 3; patch = 0 } }
+    ensures { version.new ≡ record { major = 1; minor = 4; patch = 0 } }
 {
     *version = VersionForm {
         major: 1,
-        minor: 3,
+        minor: 4,
         patch: 0,
     };
 }

@@ -1,5 +1,6 @@
 use Rattle.std.proofs.Common.{subst, sym}
-use Rattle.tree_switch.specs.Refusals.{IsLeast, IsUntold}
+use Rattle.tree_switch.specs.Refusals.{IsLeast}
+use Rattle.teb_rules.specs.Epochs.{IsUntold}
 use Rattle.engine_store.specs.Next.{IsCause}
 use Rattle.tebaldi_c.specs.Epochs.{IsFirstUntold}
 use Rattle.tebaldi_c.proofs.epochs.end_file_epoch.Goals as goal
